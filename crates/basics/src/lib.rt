@@ -1,0 +1,1 @@
+// The words that all definitions share, each with its laws; no code.
