@@ -5,3 +5,4 @@ pub mod Edges
 pub mod Accepted
 pub mod Pigeons
 pub mod Cycle
+pub mod Front
