@@ -1,0 +1,4 @@
+pub mod Jobs
+pub mod Execution
+pub mod Search
+pub mod Demand
