@@ -21,7 +21,6 @@ use Rattle.frame.specs.Demand.{Real}
 use Rattle.frame.specs.Execution.{Bad, State, Valid, nextMode, opening, outran, runs, state, step, switchTo}
 use Rattle.frame.specs.Jobs.{Frame, WellFormed}
 use Rattle.frame.specs.Search.{Fault, Finding, faultAt, firstFault, found, needsAfter, reachesBudget, scan, searchFrom, switchAt, switches, trySwitch}
-use denote.Struct.Rest.{rest}
 
 module _ (F : Frame) (W : WellFormed F) where
   abbrev Crit : (c : ℕ → ℕ) → ℕ → List ℕ → Type 0
