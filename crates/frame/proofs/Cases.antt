@@ -31,13 +31,28 @@ P10 = frame 2 listA [] ((1 ∷ 1 ∷ 0 ∷ 0 ∷ 255 ∷ []) ∷ (1 ∷ 1 ∷ 0 
 abbrev unswitched : Frame
 unswitched = frame 2 (job 0 5 1 3 3 ∷ job 0 3 0 2 2 ∷ []) [] ((1 ∷ 1 ∷ 0 ∷ 0 ∷ 0 ∷ []) ∷ idle ∷ [])
 
+-- P3's pair: in HI the low job is dropped, and that is no fault
+abbrev dropped : Frame
+dropped = frame 2 (job 0 3 1 1 3 ∷ job 0 3 0 2 2 ∷ []) [] ((0 ∷ 1 ∷ 1 ∷ []) ∷ (0 ∷ 0 ∷ 0 ∷ []) ∷ [])
+
+-- job 0 ended within CLO when job 1 switches: it needs nothing more
+abbrev ended : Frame
+ended = frame 2 (job 0 4 1 1 2 ∷ job 0 4 1 1 2 ∷ []) [] ((0 ∷ 1 ∷ 255 ∷ 255 ∷ []) ∷ (255 ∷ 0 ∷ 1 ∷ 1 ∷ []) ∷ [])
+
+-- a switch takes effect in the next slot: the entry of table HI in its own slot is of no use
+abbrev ownSlot : Frame
+ownSlot = frame 2 (job 0 2 1 1 2 ∷ []) [] ((0 ∷ 255 ∷ []) ∷ (0 ∷ 255 ∷ []) ∷ [])
+
 pub worked : (firstFault P1 ≡ nothing)
     × (firstFault P8 ≡ found (record { slot = 5; kind = late 0; chain = 2 ∷ [] }))
     × (firstFault P9 ≡ found (record { slot = 0; kind = before 1 0; chain = [] }))
     × (firstFault P10 ≡ nothing)
     × (firstFault unswitched ≡ nothing)
+    × (firstFault dropped ≡ nothing)
+    × (firstFault ended ≡ nothing)
+    × (firstFault ownSlot ≡ found (record { slot = 2; kind = late 0; chain = 0 ∷ [] }))
 unfolding firstFault searchFrom switches switchAt trySwitch reachesBudget scan faultAt faultOf owed lateJob step slotWith outran runs ready waitsFor nextMode find needsAfter oneMore switchTo
-worked = (refl, refl, refl, refl, refl)
+worked = (refl, refl, refl, refl, refl, refl, refl, refl)
 
 -- three levels: a chain of two switches, behind which job 0 is late where table 2 has too little of it
 abbrev three : List ℕ → Frame
