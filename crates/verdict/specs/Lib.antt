@@ -1,0 +1,5 @@
+pub mod FrameOf
+pub mod Answer
+pub mod Numbers
+pub mod Demand
+pub mod Inner
