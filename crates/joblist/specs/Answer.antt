@@ -1,8 +1,8 @@
 -- What the check of a job list answers: the rows of document 01's table, in their order.
 -- Assumes nothing.
-use Prim.Native.Nat.{ℕ, zero, suc, _+_, _*_, _-_, max}
+use Prim.Native.Nat.{ℕ, zero, suc, _-_, max}
 use mathlib.Core.List.{List}
-use mathlib.Core.Bool.{Bool, true, false, cond, not, _&&_, _||_}
+use mathlib.Core.Bool.{Bool, cond, not, _&&_, _||_}
 use lib.ListN.{length}
 use lib.Dec.{leb, ltb, eqb}
 use Rattle.basics.specs.Limits.{Limits}
