@@ -54,9 +54,12 @@ loop-less c = omega arith
 
 loop-again : tie.Need-loop-again Inv-loop μ-loop
 loop-again c = let a = c .before .before .before .before .before .before .before .args in
-    let o = c .before .before .before .before .before .loop in
-    (omega arith, simp length-set (o .inv .1), fill-more (o .need) (o .i) (c .need-after .result) (needsHI (square (a .list .now) (a .n) []) (a .had .now) (a .k)) (omega arith) (o .inv .2)
-    (need-is (a .list .now) (a .n) (a .had .now) (a .k) (o .i) (c .need-after .result) (c .need-after .ensures ∙ ap₂ (λ (x y : ℕ). cond (not (eqb (o .i) (a .k)) && leb x (unitsOf (a .had .now) (o .i))) x y) (c .before .before .ordinary-of .ensures .0) (c .before .high-of .ensures .0))))
+    let o = c .before .before .before .before .before .loop in (
+      omega arith,
+      simp length-set (o .inv .1),
+      fill-more (o .need) (o .i) (c .need-after .result) (needsHI (square (a .list .now) (a .n) []) (a .had .now) (a .k)) (omega arith) (o .inv .2)
+          (need-is (a .list .now) (a .n) (a .had .now) (a .k) (o .i) (c .need-after .result) (c .need-after .ensures ∙ ap₂ (λ (x y : ℕ). cond (not (eqb (o .i) (a .k)) && leb x (unitsOf (a .had .now) (o .i))) x y) (c .before .before .ordinary-of .ensures .0) (c .before .high-of .ensures .0))),
+    )
 
 returns : tie.Need-returns Inv-loop μ-loop
 returns c = λ j h. c .before .loop .inv .2 j (omega arith)

@@ -44,9 +44,12 @@ loop-less c = omega arith
 
 loop-again : tie.Need-loop-again Inv-loop μ-loop
 loop-again c = let a = c .before .before .before .before .before .before .before .args in
-    let o = c .before .before .before .before .loop in
-    (omega arith, simp length-set (o .inv .1), fill-more (o .had) (o .i) (c .lower .result) (λ k. min (ordinary (a .list .now) k) (entriesIn (a .lo .now) k (a .slot))) (omega arith) (o .inv .2)
-    (c .lower .ensures ∙ ap₂ min (c .before .before .ordinary-of .ensures .0) (c .before .entries-before .ensures)))
+    let o = c .before .before .before .before .loop in (
+      omega arith,
+      simp length-set (o .inv .1),
+      fill-more (o .had) (o .i) (c .lower .result) (λ k. min (ordinary (a .list .now) k) (entriesIn (a .lo .now) k (a .slot))) (omega arith) (o .inv .2)
+          (c .lower .ensures ∙ ap₂ min (c .before .before .ordinary-of .ensures .0) (c .before .entries-before .ensures)),
+    )
 
 returns : tie.Need-returns Inv-loop μ-loop
 returns c = λ k h. c .before .loop .inv .2 k (omega arith)
