@@ -137,7 +137,7 @@ fn needs_after(list: &[u8], n: usize, had: &[usize; MOST_JOBS], k: usize) -> [us
 
 // Whether slot t has a switch: its entry j is a high job with CHI > CLO at its CLO-th unit.
 fn switches_at(list: &[u8], n: usize, lo: &[u8], t: usize, j: usize) -> bool
-    requires { ⌜ jobAt n ≤ length (now list) ⌝ }
+    requires { ⌜ (jobAt n ≤ length (now list)) × (t < firstEdition .slots) ⌝ }
     ensures { λ r. ⌜ r ≡ switchesAt (now (list .entry)) n (now (lo .entry)) t j ⌝ }
 {
     if n <= j {
