@@ -13,3 +13,4 @@ pub mod Cases
 pub mod Fill
 pub mod Entries
 pub mod Named
+pub mod Judged

@@ -68,7 +68,7 @@ fn scan_from(
     let mut had = units;
     let mut t = from;
     let mut q: usize = 0;
-    let v = loop {
+    loop {
         let j = named_at(lo, hi, mode, t);
         let f = fault_at(list, n, before, &had, need, t, mode, q, j, x);
         let Search::Fine = f else {
@@ -82,8 +82,7 @@ fn scan_from(
         }
         q = mode;
         t += 1;
-    };
-    v
+    }
 }
 
 // What each job needs in LO.
@@ -166,7 +165,7 @@ fn switches_from(
     ensures { λ r. ⌜ r ≡ told (eachSwitch (frameWith (now (list .entry)) n l (now (lo .entry)) (now (hi .entry)) (edgeAt (now (before .entry)))) l 0 (replicate n 0)) ⌝ }
 {
     let mut t: usize = 0;
-    let v = loop {
+    loop {
         if l <= t {
             break Search::Fine;
         }
@@ -180,8 +179,7 @@ fn switches_from(
             };
         }
         t += 1;
-    };
-    v
+    }
 }
 
 // The edges as a square of bits.

@@ -49,7 +49,7 @@ fn late_at(
     ensures { λ r. ⌜ r ≡ lateTold t x (lateJob (square (now (list .entry)) n []) (unitsOf (now (need .entry))) t q (now (had .entry))) ⌝ }
 {
     let mut i: usize = 0;
-    let v = loop {
+    loop {
         if n <= i {
             break Search::Fine;
         }
@@ -57,8 +57,7 @@ fn late_at(
             break Search::Found(Fault::Late(t, i, x));
         }
         i += 1;
-    };
-    v
+    }
 }
 
 // Whether a predecessor is unfinished.
@@ -83,7 +82,7 @@ fn waits_for(
     ensures { λ r. ⌜ r ≡ firstOf (waitsFor (square [] n (now (before .entry))) (unitsOf (now (need .entry))) (now (had .entry)) j) ⌝ }
 {
     let mut p: usize = 0;
-    let v = loop {
+    loop {
         if n <= p {
             break First::Nothing;
         }
@@ -91,8 +90,7 @@ fn waits_for(
             break First::At(p);
         }
         p += 1;
-    };
-    v
+    }
 }
 
 // The named job j: too early, or before a predecessor.
