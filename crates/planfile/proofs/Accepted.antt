@@ -11,12 +11,13 @@ use lib.Dec.{leb}
 use Rattle.basics.specs.Bytes.{u32At}
 use Rattle.basics.specs.Limits.{Limits}
 use Rattle.joblist.specs.Fields.{jobs, edges, slots, high}
-use Rattle.joblist.specs.Answer.{frontAnswer, listAnswer}
+use Rattle.joblist.specs.Answer.{frontAnswer}
 use Rattle.joblist.specs.declared.ListAnswer.{ListAnswer}
 use Rattle.joblist.specs.declared.ListAnswer.the-variants.{Good, No as NoList}
 use Rattle.joblist.proofs.Accepted.{accepted, list-length}
-use Rattle.verdict.specs.Answer.{_⨾_, need, ofList, tablesAnswer, checkOf}
-use Rattle.verdict.specs.declared.Objection.{Objection}
+use Rattle.verdict.proofs.Judged.{yes-good}
+use Rattle.verdict.specs.Demand.{Input}
+use Rattle.verdict.specs.Answer.{ofList, checkOf}
 use Rattle.verdict.specs.declared.Verdict.{Verdict}
 use Rattle.verdict.specs.declared.Verdict.the-variants.{Yes, No as Objects}
 use Rattle.planfile.specs.Plan.{mark, trailerBytes, planOf, planBytes, leastBytes, mostBytes, listOf, lowOf, highOf}
@@ -29,29 +30,10 @@ use Rattle.planfile.specs.declared.WriteWhy.the-variants.{Room}
 use Rattle.planfile.specs.declared.Wrote.the-variants.{Bytes, No as Unwritten}
 use Rattle.planfile.proofs.Written.{plan-length}
 
--- the first is yes, and so is the rest
-list-yes : (a : ListAnswer) (r : Verdict) → ofList a ⨾ r ≡ Yes → (a ≡ Good) × (r ≡ Yes)
-list-yes Good r h = (refl, h)
-list-yes (NoList w) r h = let z : _≡_ {A = ℕ} 0 1 = cc in absurd (omega arith)
-
-row-yes : (b : Bool) (w : Objection) (r : Verdict) → need b w ⨾ r ≡ Yes → (b ≡ true) × (r ≡ Yes)
-row-yes true w r h = (refl, h)
-row-yes false w r h = let z : _≡_ {A = ℕ} 0 1 = cc in absurd (omega arith)
-
 -- a list and two tables that the check accepts
-pub record Pair (lim : Limits) (s lo hi : List ℕ) : Type 0 where
-  pub list : listAnswer lim s ≡ Good
-  pub low : length lo ≡ slots s
-  pub high : length hi ≡ slots s
-
 module _ (lim : Limits) (s lo hi : List ℕ) (yes : checkOf lim s lo hi ≡ Yes) where
-  pub pair-yes : Pair lim s lo hi
-  unfolding checkOf tablesAnswer
-  pair-yes =
-      let a = list-yes _ _ yes in
-      let b = row-yes _ _ _ (a .1) in
-      let c = row-yes _ _ _ (b .1) in
-      record { list = a .0; low = eqb-true _ _ (b .0); high = eqb-true _ _ (c .0) }
+  pub pair-yes : Input lim s lo hi
+  pair-yes = yes-good lim s lo hi yes .0
 
   -- the length of their plan
   pub pair-length : length (planOf s lo hi) ≡ planBytes (jobs s) (edges s) (slots s)
@@ -59,7 +41,7 @@ module _ (lim : Limits) (s lo hi : List ℕ) (yes : checkOf lim s lo hi ≡ Yes)
       let p = pair-yes in
       let n = list-length lim s (p .list) in
       let l = plan-length s lo hi in
-      omega (arith, p .low, p .high)
+      omega (arith, p .low .size, p .high .size)
 
   pub pair-most : length (planOf s lo hi) ≤ mostBytes lim
   pair-most = let a = accepted lim s (pair-yes .list) in

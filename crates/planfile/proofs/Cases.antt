@@ -11,7 +11,7 @@ use Rattle.basics.specs.Turns.{inTurn, turns}
 use Rattle.basics.specs.Units.{oneMore}
 use Rattle.frame.specs.Execution.{nextMode, outran, ready, runs, slotWith, step, switchTo, waitsFor}
 use Rattle.frame.specs.Search.{faultAt, faultOf, firstFault, lateJob, needsAfter, owed, reachesBudget, scan, searchFrom, switchAt, switches, trySwitch}
-use Rattle.joblist.specs.Answer.{bodyAnswer, countsAnswer, fieldsAnswer, frontAnswer, largest, listAnswer, pairAnswer, rising}
+use Rattle.joblist.specs.Answer.{bodyAnswer, countsAnswer, fieldsAnswer, frontAnswer, goodBudgets, goodPair, goodTimes, largest, listAnswer, rising, within}
 use Rattle.joblist.specs.Cycle.{cyclic, walk}
 use Rattle.joblist.specs.Fields.{edgeIn}
 use Rattle.joblist.specs.declared.Why.the-variants.{Jobs, Length}
@@ -32,7 +32,7 @@ pub p1-plan : (planOf listA lowA highA ≡ planA)
     × (readOf firstEdition planA ≡ Plan (record { jobs = 2; edges = 0; slots = 5 }))
     × (writeOf firstEdition listA lowA highA 46 ≡ Bytes 46)
     × (writeOf firstEdition listA lowA highA 45 ≡ Unwritten Room)
-unfolding planOf partOf partsAnswer readOf writeOf u32At checkOf tablesAnswer oddEntry listAnswer frontAnswer countsAnswer bodyAnswer fieldsAnswer largest rising pairAnswer cyclic walk anyBelow turns inTurn edgeIn u16At firstFault searchFrom switches switchAt trySwitch reachesBudget scan faultAt faultOf owed lateJob step slotWith outran runs ready waitsFor nextMode find needsAfter oneMore switchTo
+unfolding planOf partOf partsAnswer readOf writeOf u32At checkOf tablesAnswer oddEntry listAnswer frontAnswer countsAnswer within bodyAnswer fieldsAnswer goodTimes goodBudgets largest rising goodPair cyclic walk anyBelow turns inTurn edgeIn u16At firstFault searchFrom switches switchAt trySwitch reachesBudget scan faultAt faultOf owed lateJob step slotWith outran runs ready waitsFor nextMode find needsAfter oneMore switchTo
 p1-plan = (refl, refl, refl, refl, refl)
 
 -- 40, 41, 42, 1, 43 for a byte more before the trailer, 45 in table LO before table HI, and P8 as a plan: 10
@@ -43,7 +43,7 @@ pub refused : (readOf firstEdition (take 15 planA) ≡ No Short)
     × (readOf firstEdition (take 38 planA ++ (0 ∷ 0x27 ∷ []) ++ drop 39 planA) ≡ No (Checked (OfList Length)))
     × (readOf firstEdition (set (set planA 33 2) 32 3) ≡ No (Checked (Entry 4)))
     × (readOf firstEdition (planOf listA lowA (0 ∷ 0 ∷ 0 ∷ 0xFF ∷ 0xFF ∷ [])) ≡ No (Checked (Bad (Late 5 0 2))))
-unfolding planOf partOf partsAnswer readOf u32At checkOf tablesAnswer oddEntry listAnswer frontAnswer countsAnswer bodyAnswer fieldsAnswer largest rising pairAnswer cyclic walk anyBelow turns inTurn edgeIn u16At firstFault searchFrom switches switchAt trySwitch reachesBudget scan faultAt faultOf owed lateJob step slotWith outran runs ready waitsFor nextMode find needsAfter oneMore switchTo
+unfolding planOf partOf partsAnswer readOf u32At checkOf tablesAnswer oddEntry listAnswer frontAnswer countsAnswer within bodyAnswer fieldsAnswer goodTimes goodBudgets largest rising goodPair cyclic walk anyBelow turns inTurn edgeIn u16At firstFault searchFrom switches switchAt trySwitch reachesBudget scan faultAt faultOf owed lateJob step slotWith outran runs ready waitsFor nextMode find needsAfter oneMore switchTo
 refused = (refl, refl, refl, refl, refl, refl, refl)
 
 -- the parts: of P1, of its first 30 bytes, and of too few

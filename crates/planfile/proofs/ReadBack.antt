@@ -13,6 +13,7 @@ use Rattle.joblist.specs.Answer.{frontAnswer}
 use Rattle.joblist.specs.declared.ListAnswer.the-variants.{Good}
 use Rattle.joblist.proofs.Accepted.{list-length}
 use Rattle.verdict.specs.Answer.{checkOf}
+use Rattle.verdict.specs.Demand.{Input}
 use Rattle.verdict.specs.declared.Verdict.the-variants.{Yes}
 use Rattle.planfile.specs.Plan.{mark, trailer, trailerBytes, planOf, planBytes, leastBytes, mostBytes, lowAt, listOf, lowOf, highOf}
 use Rattle.planfile.specs.Answer.{shapeOf}
@@ -21,7 +22,7 @@ use Rattle.planfile.specs.declared.ReadAnswer.the-variants.{Plan}
 use Rattle.planfile.proofs.Parts.{part-some}
 use Rattle.planfile.proofs.Rows.{parts-plan, read-rest}
 use Rattle.planfile.proofs.Written.{plan-length}
-use Rattle.planfile.proofs.Accepted.{Pair, pair-yes, pair-most}
+use Rattle.planfile.proofs.Accepted.{pair-yes, pair-most}
 use Rattle.planfile.proofs.Trailer.{ends-marked, ends-back}
 use Rattle.planfile.proofs.Front.{front-jobs, front-edges, front-slots, front-list}
 
@@ -34,14 +35,14 @@ module _ (lim : Limits) (small : mostBytes lim < 2 ^ 32) (list lo hi : List ℕ)
   unfolding planOf
   plan-split = simp append-assoc
 
-  pair : Pair lim list lo hi
+  pair : Input lim list lo hi
   pair = pair-yes lim list lo hi yes
 
   list-bytes : length list ≡ lowAt list
   list-bytes = list-length lim list (pair .list)
 
   rest-bytes : length rest ≡ 2 * slots list + trailerBytes
-  rest-bytes = rw (length-append lo, length-append hi) (omega (arith, pair .low, pair .high))
+  rest-bytes = rw (length-append lo, length-append hi) (omega (arith, pair .low .size, pair .high .size))
 
   at-low : lowAt (list ++ rest) ≡ length list
   at-low =
@@ -59,12 +60,12 @@ module _ (lim : Limits) (small : mostBytes lim < 2 ^ 32) (list lo hi : List ℕ)
   whole-low : lowOf (list ++ rest) ≡ lo
   whole-low =
       part-some (list ++ rest) _ _ long
-      ∙ rw (drop-at list rest _ (sym at-low), of-slots) (take-at lo _ _ (pair .low))
+      ∙ rw (drop-at list rest _ (sym at-low), of-slots) (take-at lo _ _ (pair .low .size))
 
   whole-high : highOf (list ++ rest) ≡ hi
   whole-high =
       part-some (list ++ rest) _ _ long
-      ∙ rw (at-low, of-slots, drop-append-add list rest (slots list), drop-at lo _ _ (pair .low)) (take-at hi _ _ (pair .high))
+      ∙ rw (at-low, of-slots, drop-append-add list rest (slots list), drop-at lo _ _ (pair .low .size)) (take-at hi _ _ (pair .high .size))
 
   same-counts : shapeOf (list ++ rest) ≡ shapeOf list
   same-counts =

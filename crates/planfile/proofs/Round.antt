@@ -8,6 +8,9 @@ use lib.ListN.{length, take}
 use Rattle.basics.specs.Limits.{Limits, firstEdition}
 use Rattle.basics.proofs.Put.{take-put}
 use Rattle.joblist.proofs.Accepted.{front-accepted}
+use Rattle.frame.specs.Demand.{EveryExecutionGood}
+use Rattle.verdict.proofs.Judged.{yes-good}
+use Rattle.verdict.specs.FrameOf.{frameOf}
 use Rattle.verdict.specs.Answer.{checkOf}
 use Rattle.verdict.specs.declared.Verdict.the-variants.{Yes}
 use Rattle.planfile.specs.Plan.{planOf, mostBytes, listOf, lowOf, highOf}
@@ -43,6 +46,11 @@ read-write lim s x bytes h = plan-writes lim s (read-yes lim s x h) bytes
 pub same-parts : (lim : Limits) (s t : List ℕ) (x y : Shape) → AllBytes s → AllBytes t → readOf lim s ≡ Plan x → readOf lim t ≡ Plan y → listOf s ≡ listOf t → lowOf s ≡ lowOf t → highOf s ≡ highOf t → s ≡ t
 same-parts lim s t x y bs bt p q a b c =
     sym (plan-again lim s (read-yes lim s x p) bs) ∙ rw (a, b, c) (plan-again lim t (read-yes lim t y q) bt)
+
+-- every execution of an accepted plan is good
+pub accepted-good : (lim : Limits) (s : List ℕ) (x : Shape) → readOf lim s ≡ Plan x → EveryExecutionGood (frameOf (listOf s) (lowOf s) (highOf s))
+accepted-good lim s x h =
+    yes-good lim (listOf s) (lowOf s) (highOf s) (read-yes lim s x h .checked) .1
 
 -- the first edition is small enough for a distance of 32 bits
 pub first-small : mostBytes firstEdition < 2 ^ 32
