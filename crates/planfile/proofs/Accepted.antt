@@ -1,6 +1,6 @@
 -- What an accepted list with its tables says, and what an accepted plan says.
 -- Assumes nothing.
-use Prim.Native.Nat.{ℕ, _-_, _≤_}
+use Prim.Native.Nat.{ℕ, _+_, _-_, _≤_}
 use mathlib.Core.Path.{_≡_, refl}
 use mathlib.Core.List.{List}
 use mathlib.Core.Bool.{Bool, true, false, cond}
@@ -20,7 +20,7 @@ use Rattle.verdict.specs.Demand.{Input}
 use Rattle.verdict.specs.Answer.{ofList, checkOf}
 use Rattle.verdict.specs.declared.Verdict.{Verdict}
 use Rattle.verdict.specs.declared.Verdict.the-variants.{Yes, No as Objects}
-use Rattle.planfile.specs.Plan.{mark, trailerBytes, planOf, planBytes, leastBytes, mostBytes, listOf, lowOf, highOf}
+use Rattle.planfile.specs.Plan.{mark, trailerBytes, planBytes, leastBytes, mostBytes, listOf, lowOf, highOf}
 use Rattle.planfile.specs.Answer.{need as needed, reading, partsAnswer, readOf, writing}
 use Rattle.planfile.specs.declared.ReadAnswer.{ReadAnswer}
 use Rattle.planfile.specs.declared.ReadAnswer.the-variants.{Plan}
@@ -28,24 +28,18 @@ use Rattle.planfile.specs.declared.ReadWhy.{ReadWhy}
 use Rattle.planfile.specs.declared.Shape.{Shape}
 use Rattle.planfile.specs.declared.WriteWhy.the-variants.{Room}
 use Rattle.planfile.specs.declared.Wrote.the-variants.{Bytes, No as Unwritten}
-use Rattle.planfile.proofs.Written.{plan-length}
 
 -- a list and two tables that the check accepts
 module _ (lim : Limits) (s lo hi : List ℕ) (yes : checkOf lim s lo hi ≡ Yes) where
   pub pair-yes : Input lim s lo hi
   pair-yes = yes-good lim s lo hi yes .0
 
-  -- the length of their plan
-  pub pair-length : length (planOf s lo hi) ≡ planBytes (jobs s) (edges s) (slots s)
-  pair-length =
+  -- their plan is no longer than the limits allow
+  pub pair-fits : length s + length lo + length hi + trailerBytes ≤ mostBytes lim
+  pair-fits =
       let p = pair-yes in
-      let n = list-length lim s (p .list) in
-      let l = plan-length s lo hi in
-      omega (arith, p .low .size, p .high .size)
-
-  pub pair-most : length (planOf s lo hi) ≤ mostBytes lim
-  pair-most = let a = accepted lim s (pair-yes .list) in
-      omega (arith, pair-length, a .mostJobs, a .mostEdges, a .mostSlots)
+      let a = accepted lim s (p .list) in
+      omega (arith, list-length lim s (p .list), p .low .size, p .high .size, a .mostJobs, a .mostEdges, a .mostSlots)
 
 -- a write that says a length: the check says yes, the length is the plan's, and there is room
 pub wrote-yes : (v : Verdict) (size room k : ℕ) → writing v size room ≡ Bytes k → (v ≡ Yes) × (size ≡ k) × (size ≤ room)

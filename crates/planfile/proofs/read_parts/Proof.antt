@@ -2,8 +2,7 @@
 -- Assumes nothing.
 use borrow.Author.Needs.{needs}
 use native.Mathlib.Omega.{arith}
-use mathlib.Core.Path.{_∙_, sym}
-use mathlib.Core.Path.{ap}
+use mathlib.Core.Path.{_∙_, ap, sym}
 use Rattle.planfile.specs.declared.ReadAnswer.the-variants.{Plan}
 use Rattle.planfile.proofs.Rows.{parts-list, parts-check, parts-plan}
 use Rattle.planfile.proofs.read_parts.Statement.{statement}
