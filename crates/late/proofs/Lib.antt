@@ -1,0 +1,4 @@
+pub mod General
+pub mod Marks
+pub mod Units
+pub mod Earliest
