@@ -1,7 +1,7 @@
 -- Laws of earliest deadline first: one slot more, and that the choice depends on the jobs of the list alone.
 -- Assumes nothing.
 use Prim.Native.Nat.{ℕ, zero, suc, _+_, _≤_, _<_}
-use mathlib.Core.Path.{_≡_, refl, sym, ap, ap₂, _∙_}
+use mathlib.Core.Path.{_≡_, refl, ap, ap₂, _∙_}
 use mathlib.Core.Logic.{inl, inr}
 use mathlib.Core.List.{List}
 use mathlib.Core.Bool.{Bool, not, _&&_}
@@ -13,8 +13,8 @@ use Rattle.basics.specs.Choice.{earliest}
 use Rattle.basics.specs.Units.{unitsOf}
 use Rattle.basics.proofs.Choice.{earliest-is}
 use Rattle.basics.proofs.Below.{any-same}
-use Rattle.joblist.specs.Fields.{jobs, edges, slots, arrival, deadline, edgeFrom, edgeTo}
-use Rattle.late.specs.Table.{units, marked, waits}
+use Rattle.joblist.specs.Fields.{jobs, edges, arrival, deadline, edgeFrom, edgeTo}
+use Rattle.late.specs.Table.{marked, waits}
 use Rattle.late.specs.Late.{ready, takes, unfinished, chosen, edfAt}
 use Rattle.late.proofs.General.{earliest-same}
 use Rattle.late.proofs.Units.{Counted}

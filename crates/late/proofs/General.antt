@@ -1,23 +1,13 @@
 -- Laws of the shared words: two tests that agree answer the same, and one entry more or changed counts as it should.
 -- Assumes nothing.
 use Prim.Native.Nat.{ℕ, zero, suc, _+_, _-_, _≤_, _<_}
-use mathlib.Core.Path.{_≡_, refl, sym, ap, ap₂, _∙_}
-use mathlib.Core.List.{List}
+use mathlib.Core.Path.{_≡_, refl, sym, ap₂}
 use mathlib.Core.Bool.{Bool, true, false, cond, _&&_, _||_}
-use native.Mathlib.Numerals.{add-one}
 use native.Mathlib.Omega.{arith}
-use native.Mathlib.Decide.{ℕ-discrete, decLt}
-use borrow.Author.Tests.{eq-eqb, ne-eqb}
-use lib.ListN.{length, getD, set}
-use lib.Seq.{getD-set-same, getD-set-other}
 use lib.Dec.{eqb}
 use Rattle.basics.specs.Choice.{preferred, earliest}
 use Rattle.basics.specs.Turns.{inTurn, turns}
-use Rattle.basics.specs.Find.{lowest, find, foundOr}
-use Rattle.basics.specs.Below.{countBelow, anyBelow}
-use Rattle.basics.proofs.Find.{find-cong}
 use Rattle.basics.proofs.Choice.{earliest-step}
-use Rattle.late.specs.Table.{entry, marked, units}
 
 -- two readiness tests that agree on the jobs choose the same
 pub earliest-same : (f g : ℕ → Bool) (d : ℕ → ℕ) (n : ℕ) → ((j : ℕ) → j < n → f j ≡ g j) → earliest f d n ≡ earliest g d n
@@ -37,7 +27,6 @@ module _ {A : Type 0} (join : A → A → A) (end : A) (f g : ℕ → A) where
   pub turns-same : (n : ℕ) → ((x : ℕ) → x < n → f x ≡ g x) → turns join end f n 0 ≡ turns join end g n 0
   unfolding turns
   turns-same n h = in-turn-same (n - 0) 0 (λ x a b. h x (omega arith))
-
 
 -- one more job: a ready job is weighed against the choice so far, another is passed over
 module _ (ready : ℕ → Bool) (d : ℕ → ℕ) (n best : ℕ) (so-far : best ≡ earliest ready d n) where

@@ -7,7 +7,7 @@ use mathlib.Core.Bool.{Bool, true, false, _&&_, _||_, and-false}
 use native.Mathlib.Omega.{arith}
 use native.Mathlib.Decide.{ℕ-discrete}
 use borrow.Author.Tests.{eq-eqb, ne-eqb}
-use lib.ListN.{length, getD, set, replicate, length-set, length-replicate, getD-replicate}
+use lib.ListN.{length, getD, set, replicate, length-set}
 use lib.Seq.{getD-set-same, getD-set-other}
 use lib.Dec.{eqb}
 use Rattle.basics.specs.Below.{anyBelow}
@@ -75,3 +75,16 @@ module _ (f : ℕ → Bool) where
       go : (j : ℕ) → j < k + 1 → Dec (j ≡ k) → marked (set r k b) j ≡ f j
       go j h (yes p) = ap (marked (set r k b)) p ∙ getD-set-same r k b false (let q = m .long in omega arith) ∙ e ∙ sym (ap f p)
       go j h (no p) = getD-set-other r k j b false p ∙ m .same j (omega arith)
+
+-- edge e goes from job j to job q
+abbrev pub goes : List ℕ → ℕ → ℕ → ℕ → Bool
+goes s j e q = eqb (edgeFrom s (jobs s) e) j && eqb (edgeTo s (jobs s) e) q
+
+module _ (s : List ℕ) (j : ℕ) (r : List Bool) (e : ℕ) (m : Marks (goes s j) r e) where
+  pub goes-yes : edgeTo s (jobs s) e < 64 → edgeFrom s (jobs s) e ≡ j → Marks (goes s j) (set r (edgeTo s (jobs s) e) true) (e + 1)
+  goes-yes l p =
+      marks-one (goes s j) r e m (edgeTo s (jobs s) e) l (rw (eq-eqb (edgeFrom s (jobs s) e) j p, eq-eqb (edgeTo s (jobs s) e) (edgeTo s (jobs s) e) refl))
+      (λ q h. rw (ne-eqb (edgeTo s (jobs s) e) q (λ i. h (sym i))) (and-false (eqb (edgeFrom s (jobs s) e) j)))
+
+  pub goes-no : ¬ (edgeFrom s (jobs s) e ≡ j) → Marks (goes s j) r (e + 1)
+  goes-no p = marks-skip (goes s j) r e m (λ q. rw (ne-eqb (edgeFrom s (jobs s) e) j p))

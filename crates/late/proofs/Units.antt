@@ -3,18 +3,18 @@
 use Prim.Native.Nat.{ℕ, zero, suc, _+_, _≤_, _<_}
 use mathlib.Core.Path.{_≡_, refl, sym, ap, ap₂, _∙_}
 use mathlib.Core.List.{List}
-use mathlib.Core.Bool.{Bool, true, false, cond}
+use mathlib.Core.Bool.{Bool, cond}
 use native.Mathlib.Numerals.{add-one}
 use native.Mathlib.Omega.{arith}
-use native.Mathlib.Decide.{ℕ-discrete, decLt}
-use borrow.Author.Tests.{eq-eqb, ne-eqb, lt-ltb, le-ltb}
-use lib.ListN.{length, getD, set, replicate, length-replicate}
+use native.Mathlib.Decide.{ℕ-discrete}
+use borrow.Author.Tests.{eq-eqb, ne-eqb, lt-ltb}
+use lib.ListN.{length, set, replicate}
 use lib.Seq.{getD-set-same, getD-set-other}
-use lib.Dec.{T, eqb, ltb}
+use lib.Dec.{eqb, ltb}
 use Rattle.basics.specs.Below.{countBelow, entriesBefore}
 use Rattle.basics.specs.Units.{unitsOf, oneMore}
 use Rattle.basics.proofs.Tests.{of-true}
-use Rattle.basics.proofs.Below.{entries-zero, entries-here, entries-else, count-at-most}
+use Rattle.basics.proofs.Below.{entries-zero, count-at-most}
 use Rattle.basics.proofs.Units.{more-on, more-other, more-length}
 use Rattle.late.specs.Table.{entry, units}
 use Rattle.late.proofs.Marks.{all-alike}
@@ -93,7 +93,7 @@ module _ (n : ℕ) (had table : List ℕ) (t : ℕ) (c : Counted n had table t) 
       record {
         room = rw (more-length (ltb v n) v had) (c .room);
         count = λ j h.
-          more-one n v j had (c .room) h
-          ∙ ap₂ (λ m x. m + one (eqb x j)) (c .count j h ∙ sym (units-set-at table t v j)) (sym (getD-set-same table t v 0 l))
-          ∙ sym (units-step (set table t v) j t);
+            more-one n v j had (c .room) h
+            ∙ ap₂ (λ m x. m + one (eqb x j)) (c .count j h ∙ sym (units-set-at table t v j)) (sym (getD-set-same table t v 0 l))
+            ∙ sym (units-step (set table t v) j t);
       }

@@ -23,7 +23,7 @@ ghost use Rattle.basics.specs.Limits.{firstEdition};
 ghost use Rattle.joblist.specs.Fields.{jobs, edges, slots, arrival, deadline, ordinary, edgeIn};
 ghost use Rattle.joblist.specs.Accepted.{Accepted};
 ghost use Rattle.late.specs.Table.{entry, units, held, empty, waits, marked};
-ghost use Rattle.late.specs.Late.{orElse, ready, lateAt, takes, edfAt, lateAnswer, move, moved, lateTable, firstUnits};
+ghost use Rattle.late.specs.Late.{orElse, ready, lateAt, takes, edfAt, lateAnswer, holdsNext, target, move, moved, lateTable, firstUnits};
 ghost use Rattle.late.specs.declared.Late.the-variants.{Fine};
 
 // A slot with no job.
@@ -96,7 +96,13 @@ fn undone_of(s: &[u8], v: usize, had: &[u16; MOST_JOBS]) -> [bool; MOST_JOBS]
 }
 
 // Whether job j has arrived by slot t, is undone and does not wait.
-fn ready_at(s: &[u8], undone: &[bool; MOST_JOBS], waiting: &[bool; MOST_JOBS], t: usize, j: usize) -> bool
+fn ready_at(
+    s: &[u8],
+    undone: &[bool; MOST_JOBS],
+    waiting: &[bool; MOST_JOBS],
+    t: usize,
+    j: usize,
+) -> bool
     requires { ⌜ Accepted firstEdition (now s) × (j < jobs (now s)) ⌝ }
     ensures { λ r. ⌜ r ≡ (leb (arrival (now (s .entry)) j) t && (marked (now (undone .entry)) j && not (marked (now (waiting .entry)) j))) ⌝ }
 {
@@ -202,11 +208,14 @@ fn next_of(s: &[u8], j: usize) -> [bool; MOST_JOBS]
     r
 }
 
-// The lowest slot below d that holds one of n jobs that is marked as next.
-fn limit_of(n: usize, next: &[bool; MOST_JOBS], table: &[u8], d: usize) -> usize
-    requires { ⌜ (n ≤ firstEdition .jobs) × (d ≤ length (now table)) ⌝ }
-    ensures { λ r. ⌜ r ≡ lowest (λ x. ltb (entry (now (table .entry)) x) n && marked (now (next .entry)) (entry (now (table .entry)) x)) d 0 ⌝ }
+// The lowest slot below the deadline of job j that is held by a successor, or the deadline.
+fn limit_of(s: &[u8], table: &[u8], j: usize) -> usize
+    requires { ⌜ Accepted firstEdition (now s) × (length (now table) ≡ slots (now s)) × (j < jobs (now s)) ⌝ }
+    ensures { λ r. ⌜ r ≡ lowest (holdsNext (now (s .entry)) (now (table .entry)) j) (deadline (now (s .entry)) j) 0 ⌝ }
 {
+    let n = jobs_of(s);
+    let next = next_of(s, j);
+    let d = deadline_of(s, j);
     for x in 0..d {
         let k = wide(table[x]);
         if k < n {
@@ -218,11 +227,12 @@ fn limit_of(n: usize, next: &[bool; MOST_JOBS], table: &[u8], d: usize) -> usize
     d
 }
 
-// The highest slot below b that holds none of n jobs, or t.
-fn highest_empty(n: usize, table: &[u8], b: usize, t: usize) -> usize
-    requires { ⌜ b ≤ length (now table) ⌝ }
-    ensures { λ r. ⌜ r ≡ highest (λ x. leb n (entry (now (table .entry)) x)) t b ⌝ }
+// The highest empty slot below b, or t.
+fn highest_empty(s: &[u8], table: &[u8], b: usize, t: usize) -> usize
+    requires { ⌜ Accepted firstEdition (now s) × (b ≤ length (now table)) ⌝ }
+    ensures { λ r. ⌜ r ≡ highest (empty (now (s .entry)) (now (table .entry))) t b ⌝ }
 {
+    let n = jobs_of(s);
     let mut r = t;
     for x in 0..b {
         if n <= wide(table[x]) {
@@ -232,18 +242,25 @@ fn highest_empty(n: usize, table: &[u8], b: usize, t: usize) -> usize
     r
 }
 
+// Where the unit of job j goes that stood in slot t.
+fn target_of(s: &[u8], table: &[u8], j: usize, t: usize) -> usize
+    requires { ⌜ Accepted firstEdition (now s) × (length (now table) ≡ slots (now s)) × (j < jobs (now s)) × (t < slots (now s)) ⌝ }
+    ensures { λ r. ⌜ (r ≡ target (now (s .entry)) (now (table .entry)) j t) × (r < slots (now (s .entry))) ⌝ }
+{
+    let b = limit_of(s, table, j);
+    highest_empty(s, table, b, t)
+}
+
 // The unit of slot t moves.
 fn move_one(s: &[u8], table: &mut [u8], t: usize)
     requires { ⌜ Accepted firstEdition (now s) × (length (now table) ≡ slots (now s)) × (t < slots (now s)) ⌝ }
     ensures { λ _. ⌜ now (table .exit) ≡ move (now (s .entry)) (now (table .entry)) t ⌝ }
 {
-    let n = jobs_of(s);
     let v = table[t];
     let j = wide(v);
-    if j < n {
+    if j < jobs_of(s) {
         table[t] = IDLE;
-        let b = limit_of(n, &next_of(s, j), table, deadline_of(s, j));
-        let x = highest_empty(n, table, b, t);
+        let x = target_of(s, table, j, t);
         table[x] = v;
     }
 }

@@ -1,35 +1,18 @@
 -- `late::choose` meets its contract: the choice among the jobs below j.
 -- Assumes nothing.
 use Rattle.late.proofs.General.{weighed, passed}
-use borrow.Author.Tests.{lt-ltb, le-ltb, le-leb, lt-leb, eq-eqb, ne-eqb, eqb-false}
-use mathlib.Core.Path.{_≡_, _∙_, sym, ap, refl}
-use Prim.Native.Nat.{ℕ, _≤_, _-_, _<_, _+_, _*_}
-use mathlib.Core.Logic.{_⊎_, inl, inr}
-use mathlib.Core.Bool.{Bool, true, false, cond, not, _&&_, _||_, and-false}
-use mathlib.Core.List.{List}
-use lib.ListN.{length, getD, set, length-set}
-use lib.Dec.{eqb, ltb, leb}
-use native.Mathlib.Numerals.{add-one}
-use Rattle.basics.specs.Limits.{firstEdition}
-use Rattle.joblist.specs.Fields.{jobs, edges, slots, arrival, deadline, ordinary, high, level, edgeFrom, edgeTo, edgeIn}
-use Rattle.joblist.specs.Accepted.{Accepted}
-use Rattle.late.specs.Table.{idle, entry, marked, units, allIdle, held, empty, waits}
+use mathlib.Core.Path.{_≡_, _∙_, sym}
+use Prim.Native.Nat.{_≤_, _-_}
+use mathlib.Core.Logic.{inl, inr}
+use Rattle.joblist.specs.Fields.{jobs, deadline}
+use Rattle.late.specs.Table.{marked}
 use Rattle.basics.specs.Choice.{earliest}
-use Rattle.basics.proofs.Choice.{earliest-zero, earliest-step, earliest-below}
+use Rattle.basics.proofs.Choice.{earliest-zero, earliest-below}
 use Rattle.late.specs.Late.{ready}
 use borrow.Author.Needs.{needs}
 use native.Mathlib.Omega.{arith}
 use Rattle.late.proofs.choose.Statement.{statement}
 use Rattle.late.proofs.choose.Tie as tie
-use Rattle.late.proofs.choose.Reads as reads
-use Rattle.late.proofs.choose.Lts as lts
-use Rattle.joblist.proofs.jobs_of.Reads as jobs-of-reads
-use Rattle.late.proofs.ready_at.Reads as ready-at-reads
-use Rattle.late.proofs.sooner.Reads as sooner-reads
-use Rattle.late.proofs.waiting_of.Reads as waiting-of-reads
-
--- `late::choose` meets its contract: the choice among the jobs below j.
--- Assumes nothing.
 
 abbrev Inv-loop : tie.InvT-loop
 Inv-loop s undone t waiting best₀ j₀ j-end best j = (j ≤ j-end) × (best ≡ earliest (ready s (marked undone) t) (deadline s) j)

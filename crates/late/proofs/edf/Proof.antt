@@ -1,34 +1,16 @@
 -- `late::edf` meets its contract: the table below slot t, and the units in it.
 -- Assumes nothing.
-use borrow.Author.Tests.{lt-ltb, le-ltb, le-leb, lt-leb, eq-eqb, ne-eqb, eqb-false}
-use mathlib.Core.Path.{_≡_, _∙_, sym, ap, refl}
-use Prim.Native.Nat.{ℕ, _≤_, _-_, _<_, _+_, _*_}
-use mathlib.Core.Logic.{_⊎_, inl, inr}
-use mathlib.Core.Bool.{Bool, true, false, cond, not, _&&_, _||_, and-false}
-use mathlib.Core.List.{List}
-use lib.ListN.{length, getD, set, length-set}
-use lib.Dec.{eqb, ltb, leb}
-use native.Mathlib.Numerals.{add-one}
-use Rattle.basics.specs.Limits.{firstEdition}
-use Rattle.joblist.specs.Fields.{jobs, edges, slots, arrival, deadline, ordinary, high, level, edgeFrom, edgeTo, edgeIn}
-use Rattle.joblist.specs.Accepted.{Accepted}
-use Rattle.late.specs.Table.{idle, entry, marked, units, allIdle, held, empty, waits}
+use mathlib.Core.Path.{_≡_, sym, refl}
+use Prim.Native.Nat.{_≤_, _-_}
+use lib.ListN.{length, length-set}
+use Rattle.joblist.specs.Fields.{jobs, slots}
 use Rattle.late.specs.Late.{edfAt}
 use Rattle.late.proofs.Units.{Counted, counted-none, counted-put, counted-few}
-use Rattle.late.proofs.Earliest.{earliest-byte, edf-zero, edf-long, edf-next, marks-are}
+use Rattle.late.proofs.Earliest.{earliest-byte, edf-zero, edf-next, marks-are}
 use borrow.Author.Needs.{needs}
 use native.Mathlib.Omega.{arith}
 use Rattle.late.proofs.edf.Statement.{statement}
 use Rattle.late.proofs.edf.Tie as tie
-use Rattle.late.proofs.edf.Reads as reads
-use Rattle.late.proofs.edf.Lts as lts
-use Rattle.joblist.proofs.jobs_of.Reads as jobs-of-reads
-use Rattle.late.proofs.choose.Reads as choose-reads
-use Rattle.late.proofs.one_more.Reads as one-more-reads
-use Rattle.late.proofs.undone_of.Reads as undone-of-reads
-
--- `late::edf` meets its contract: the table below slot t, and the units in it.
--- Assumes nothing.
 
 abbrev Inv-loop : tie.InvT-loop
 Inv-loop s v out₀ n l had₀ t₀ out had t = (t ≤ l) × (length out ≡ length out₀) × (out ≡ edfAt s v out₀ t) × Counted (jobs s) had out t

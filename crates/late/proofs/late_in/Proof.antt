@@ -1,53 +1,52 @@
-use borrow.Author.Needs.{needs}
+-- `late::late_in` meets its contract: the jobs below j answer Fine.
+-- Assumes nothing.
+use mathlib.Core.Path.{_≡_, _∙_, sym, refl}
+use Prim.Native.Nat.{_≤_, _-_, _<_}
+use mathlib.Core.Logic.{inl, inr}
+use Rattle.joblist.specs.Fields.{jobs}
+use Rattle.late.specs.Table.{marked}
+use Rattle.late.proofs.Lateness.{from, late-hit, late-other, late-done, late-end}
 use native.Mathlib.Omega.{arith}
 use Rattle.late.proofs.late_in.Statement.{statement}
 use Rattle.late.proofs.late_in.Tie as tie
-use Rattle.late.proofs.late_in.Reads as reads
-use Rattle.late.proofs.late_in.Lts as lts
-use Rattle.joblist.proofs.deadline_of.Reads as deadline-of-reads
-use Rattle.joblist.proofs.jobs_of.Reads as jobs-of-reads
 
 abbrev Inv-loop : tie.InvT-loop
-Inv-loop s undone t j₀ j-end j = ?
+Inv-loop s undone t j₀ j-end j = (j ≤ j-end) × (from s (marked undone) t 0 ≡ from s (marked undone) t j)
 
 abbrev μ-loop : tie.MeasureT-loop
-μ-loop s undone t j₀ j-end j = ?
+μ-loop s undone t j₀ j-end j = j-end - j
 
--- src/lib.rt:161:17
 jobs-of-requires : tie.Need-jobs-of-requires Inv-loop μ-loop
-jobs-of-requires c κs = ?
+jobs-of-requires c κs = omega arith
 
--- src/lib.rt:161:5
 loop-holds : tie.Need-loop-holds Inv-loop μ-loop
-loop-holds c = ?
+loop-holds c = (omega arith, refl)
 
--- src/lib.rt:162:12
 deadline-of-requires : tie.Need-deadline-of-requires Inv-loop μ-loop
-deadline-of-requires c κs = ?
+deadline-of-requires c κs = omega arith
 
--- src/lib.rt:163:16
 element-copy-out-if2 : tie.Need-element-copy-out-if2 Inv-loop μ-loop
-element-copy-out-if2 c = ?
+element-copy-out-if2 c = omega arith
 
--- src/lib.rt:164:17
 returns : tie.Need-returns Inv-loop μ-loop
-returns c = ?
+returns c = let h : c .before .before .before .before .before .loop .j < jobs (c .before .before .before .before .before .before .before .before .args .s .now) = omega arith in sym (c .before .before .before .before .before .loop .inv .1 ∙ late-hit _ _ _ _ h (sym (c .before .before .before .deadline-of .ensures .0) ∙ c .before .before .if1 .taken) (c .if2 .taken))
 
--- src/lib.rt:161:9
 add-j : tie.Need-add-j Inv-loop μ-loop
-add-j c = ?
+add-j c = omega arith
 
--- src/lib.rt:161:5
 loop-less : tie.Need-loop-less Inv-loop μ-loop
-loop-less c = ?
+loop-less c = omega arith
 
--- src/lib.rt:161:5
 loop-again : tie.Need-loop-again Inv-loop μ-loop
-loop-again c = ?
+loop-again c = let l = c .before .before .before .loop in
+    let h : l .j < jobs (c .before .before .before .before .before .before .args .s .now) = omega arith in
+    elim (c .if1 .came) [
+      | inl w ↦ (omega arith, l .inv .1 ∙ late-done _ _ _ _ h (w .2 .left))
+      | inr w ↦ (omega arith, l .inv .1 ∙ late-other _ _ _ _ h (λ e. w .left (c .before .deadline-of .ensures .0 ∙ e)))
+    ]
 
--- src/lib.rt:157:1
 returns-2 : tie.Need-returns-2 Inv-loop μ-loop
-returns-2 c = ?
+returns-2 c = sym (c .before .loop .inv .1 ∙ late-end _ _ _ _ (omega arith))
 
 pub late-in-spec : {M : Type 1} → statement M
 late-in-spec =

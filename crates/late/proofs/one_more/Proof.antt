@@ -1,18 +1,12 @@
 -- `late::one_more` meets its contract.
 -- Assumes nothing.
-use borrow.Author.Tests.{lt-ltb, le-ltb, le-leb, lt-leb, eq-eqb, ne-eqb}
-use mathlib.Core.Path.{_≡_, _∙_, sym, ap, refl}
-use Prim.Native.Nat.{ℕ, _≤_, _-_, _<_, _+_, _*_}
-use mathlib.Core.Logic.{_⊎_, inl, inr}
-use lib.ListN.{length, getD, set, length-set}
+use borrow.Author.Tests.{lt-ltb, le-ltb}
 use Rattle.basics.specs.Units.{oneMore}
 use native.Mathlib.Numerals.{add-one}
 use borrow.Author.Needs.{needs}
 use native.Mathlib.Omega.{arith}
 use Rattle.late.proofs.one_more.Statement.{statement}
 use Rattle.late.proofs.one_more.Tie as tie
-use Rattle.late.proofs.one_more.Reads as reads
-use Rattle.late.proofs.one_more.Lts as lts
 
 mul-r : tie.Need-mul-r
 mul-r c = search needs

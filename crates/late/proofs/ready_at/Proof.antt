@@ -1,32 +1,15 @@
 -- `late::ready_at` meets its contract.
 -- Assumes nothing.
-use borrow.Author.Tests.{lt-ltb, le-ltb, le-leb, lt-leb, eq-eqb, ne-eqb, eqb-false}
-use mathlib.Core.Path.{_≡_, _∙_, sym, ap, refl}
-use Prim.Native.Nat.{ℕ, _≤_, _-_, _<_, _+_, _*_}
-use mathlib.Core.Logic.{_⊎_, inl, inr}
-use mathlib.Core.Bool.{Bool, true, false, cond, not, _&&_, _||_, and-false, and-true}
-use mathlib.Core.List.{List}
-use lib.ListN.{length, getD, set, length-set}
-use lib.Dec.{eqb, ltb, leb}
-use native.Mathlib.Numerals.{add-one}
-use Rattle.basics.specs.Limits.{firstEdition}
-use Rattle.joblist.specs.Fields.{jobs, edges, slots, arrival, deadline, ordinary, high, level, edgeFrom, edgeTo, edgeIn}
-use Rattle.joblist.specs.Accepted.{Accepted}
-use Rattle.late.specs.Table.{idle, entry, marked, units, allIdle, held, empty, waits}
-use borrow.Author.Tests.{lt-ltb, le-ltb, le-leb, lt-leb, eq-eqb, ne-eqb}
+use borrow.Author.Tests.{le-leb, lt-leb}
+use mathlib.Core.Path.{sym}
+use mathlib.Core.Bool.{and-false, and-true}
+use lib.Dec.{leb}
+use Rattle.joblist.specs.Fields.{arrival}
+use Rattle.late.specs.Table.{marked}
+use borrow.Author.Tests.{le-leb, lt-leb}
 use borrow.Author.Needs.{needs}
-use native.Mathlib.Omega.{arith}
 use Rattle.late.proofs.ready_at.Statement.{statement}
 use Rattle.late.proofs.ready_at.Tie as tie
-use Rattle.late.proofs.ready_at.Reads as reads
-use Rattle.late.proofs.ready_at.Lts as lts
-use Rattle.joblist.proofs.arrival_of.Reads as arrival-of-reads
-
--- `late::ready_at` meets its contract.
--- Assumes nothing.
-
--- `late::ready_at` meets its contract.
--- Assumes nothing.
 
 arrival-of-requires : tie.Need-arrival-of-requires
 arrival-of-requires c κs = search needs

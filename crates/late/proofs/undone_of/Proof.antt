@@ -1,18 +1,8 @@
 -- `late::undone_of` meets its contract: the jobs below j are marked as it says.
 -- Assumes nothing.
-use borrow.Author.Tests.{lt-ltb, le-ltb, le-leb, lt-leb, eq-eqb, ne-eqb, eqb-false}
-use mathlib.Core.Path.{_≡_, _∙_, sym, ap, ap₂, refl}
-use Prim.Native.Nat.{ℕ, _≤_, _-_, _<_, _+_, _*_}
-use mathlib.Core.Logic.{_⊎_, inl, inr}
-use mathlib.Core.Bool.{Bool, true, false, cond, not, _&&_, _||_, and-false}
-use mathlib.Core.List.{List}
-use lib.ListN.{length, getD, set, length-set}
-use lib.Dec.{eqb, ltb, leb}
-use native.Mathlib.Numerals.{add-one}
-use Rattle.basics.specs.Limits.{firstEdition}
-use Rattle.joblist.specs.Fields.{jobs, edges, slots, arrival, deadline, ordinary, high, level, edgeFrom, edgeTo, edgeIn}
-use Rattle.joblist.specs.Accepted.{Accepted}
-use Rattle.late.specs.Table.{idle, entry, marked, units, allIdle, held, empty, waits}
+use mathlib.Core.Path.{ap₂}
+use Prim.Native.Nat.{_≤_, _-_}
+use lib.Dec.{ltb}
 use Rattle.basics.specs.Units.{unitsOf}
 use Rattle.late.specs.Late.{takes}
 use Rattle.late.proofs.Marks.{Filled, filled-none, filled-next}
@@ -20,11 +10,6 @@ use borrow.Author.Needs.{needs}
 use native.Mathlib.Omega.{arith}
 use Rattle.late.proofs.undone_of.Statement.{statement}
 use Rattle.late.proofs.undone_of.Tie as tie
-use Rattle.late.proofs.undone_of.Reads as reads
-use Rattle.late.proofs.undone_of.Lts as lts
-use Rattle.joblist.proofs.jobs_of.Reads as jobs-of-reads
-use Rattle.late.proofs.takes_of.Reads as takes-of-reads
-use Rattle.late.proofs.wide16.Reads as wide16-reads
 
 abbrev Inv-loop : tie.InvT-loop
 Inv-loop s v had r₀ j₀ j-end r j = (j ≤ j-end) × Filled (λ i. ltb (unitsOf had i) (takes s v i)) r j

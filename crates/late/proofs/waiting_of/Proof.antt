@@ -1,37 +1,15 @@
 -- `late::waiting_of` meets its contract: after e edges each job is marked to which one of them comes from an undone job.
 -- Assumes nothing.
-use borrow.Author.Tests.{lt-ltb, le-ltb, le-leb, lt-leb, eq-eqb, ne-eqb, eqb-false}
-use mathlib.Core.Path.{_≡_, _∙_, sym, ap, refl}
-use Prim.Native.Nat.{ℕ, _≤_, _-_, _<_, _+_, _*_}
-use mathlib.Core.Logic.{_⊎_, inl, inr}
-use mathlib.Core.Bool.{Bool, true, false, cond, not, _&&_, _||_, and-false}
-use mathlib.Core.List.{List}
-use lib.ListN.{length, getD, set, length-set}
-use lib.Dec.{eqb, ltb, leb}
-use native.Mathlib.Numerals.{add-one}
-use Rattle.basics.specs.Limits.{firstEdition}
-use Rattle.joblist.specs.Fields.{jobs, edges, slots, arrival, deadline, ordinary, high, level, edgeFrom, edgeTo, edgeIn}
-use Rattle.joblist.specs.Accepted.{Accepted}
-use Rattle.late.specs.Table.{idle, entry, marked, units, allIdle, held, empty, waits}
+use mathlib.Core.Path.{_≡_}
+use Prim.Native.Nat.{_≤_, _-_}
+use mathlib.Core.Logic.{inl, inr}
+use Rattle.joblist.specs.Fields.{edges}
+use Rattle.late.specs.Table.{waits}
 use Rattle.late.proofs.Marks.{Marks, comes, marks-none, comes-yes, comes-no}
-use Rattle.basics.specs.Below.{anyBelow}
-use Rattle.basics.proofs.Below.{any-zero}
 use borrow.Author.Needs.{needs}
 use native.Mathlib.Omega.{arith}
 use Rattle.late.proofs.waiting_of.Statement.{statement}
 use Rattle.late.proofs.waiting_of.Tie as tie
-use Rattle.late.proofs.waiting_of.Reads as reads
-use Rattle.late.proofs.waiting_of.Lts as lts
-use Rattle.joblist.proofs.edge_from.Reads as edge-from-reads
-use Rattle.joblist.proofs.edge_to.Reads as edge-to-reads
-use Rattle.joblist.proofs.edges_of.Reads as edges-of-reads
-use Rattle.joblist.proofs.jobs_of.Reads as jobs-of-reads
-
--- `late::waiting_of` meets its contract: after e edges each job is marked to which one of them comes from an undone job.
--- Assumes nothing.
-
--- `late::waiting_of` meets its contract: after e edges each job is marked to which one of them comes from an undone job.
--- Assumes nothing.
 
 abbrev Inv-loop : tie.InvT-loop
 Inv-loop s undone n r₀ e₀ e-end r e = (e ≤ e-end) × Marks (comes s undone) r e
