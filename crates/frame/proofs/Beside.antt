@@ -9,7 +9,6 @@ use Prim.Native.Nat.{_<_, _≤_, suc, ℕ}
 use native.Mathlib.Omega.{arith}
 use borrow.Author.Tests.{eqb-false, eqb-true, leb-false, leb-true, ltb-false}
 use lib.Dec.{T, eqb, eqb→eq, leb, leb→le, ltb, ltb→lt}
-use lib.Ieee.{up}
 use lib.ListN.{length}
 use Rattle.basics.proofs.Tests.{decide, eq→eqb, lie, of-true}
 use Rattle.basics.proofs.Units.{more-length, more-on, more-other, more-up}

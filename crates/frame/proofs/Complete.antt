@@ -9,7 +9,6 @@ use Prim.Native.Nat.{_+_, _≤_, suc, zero, ℕ}
 use native.Mathlib.Omega.{arith}
 use borrow.Author.Tests.{eqb-false, eqb-true}
 use lib.Dec.{T, eqb}
-use lib.Ieee.{up}
 use lib.ListN.{getD-replicate, length-replicate, replicate}
 use Rattle.basics.proofs.Tests.{and-i, eq→eqb, truth}
 use Rattle.basics.specs.Units.{oneMore, unitsOf}
@@ -19,7 +18,6 @@ use Rattle.frame.proofs.Step.{Slot, goes, next-mode, runs-job, slot-cas
 use Rattle.frame.specs.Execution.{Bad, Badness, State, Valid, nextMode, opening, runs, state, step}
 use Rattle.frame.specs.Jobs.{Frame, WellFormed}
 use Rattle.frame.specs.Search.{Finding, faultAt, firstFault, needsAfter, nothing, reachesBudget, scan, searchFrom, switchAt, switches, trySwitch}
-use denote.Struct.Rest.{rest}
 
 module _ (F : Frame) (W : WellFormed F) (e : ℕ → ℕ) (ok : Valid F e) where
   -- nothing goes wrong at slot t and the k slots after it

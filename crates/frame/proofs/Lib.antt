@@ -6,3 +6,9 @@ pub mod Alike
 pub mod Sound
 pub mod Demand
 pub mod Turn
+pub mod TwoLevels
+pub mod TwoSearch
+pub mod Units
+pub mod UnitsTwo
+pub mod WellFormed
+pub mod Cases

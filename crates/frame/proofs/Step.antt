@@ -8,7 +8,6 @@ use Prim.Native.Nat.{_<_, _≤_, suc, ℕ}
 use native.Mathlib.Omega.{arith}
 use borrow.Author.Tests.{leb-false, leb-true}
 use lib.Dec.{T, leb, leb→le, le→leb, ltb, ltb→lt, lt→ltb}
-use lib.Ieee.{up}
 use Rattle.basics.proofs.Find.{find-has, find-some}
 use Rattle.basics.proofs.Tests.{and-i, and-l, and-r, of-false, of-true, or-l}
 use Rattle.basics.specs.Units.{oneMore, unitsOf}

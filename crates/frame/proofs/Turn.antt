@@ -1,19 +1,14 @@
 -- The search one turn at a time, as a loop wants it.
 -- Assumes nothing.
 use mathlib.Core.Bool.{Bool, false, true}
-use mathlib.Core.List.{[]}
 use mathlib.Core.Option.{Option, none, some}
-use mathlib.Core.Path.{_∙_, _≡_, ap, fun-ext, refl}
+use mathlib.Core.Path.{_∙_, _≡_, ap, refl}
 use Prim.Native.Nat.{suc, zero, ℕ}
-use lib.ListN.{replicate}
-use Rattle.frame.specs.Execution.{State, nextMode, state, step}
+use Rattle.frame.specs.Execution.{State, nextMode, step}
 use Rattle.frame.specs.Jobs.{Frame}
-use Rattle.frame.specs.Search.{Fault, Finding, faultAt, firstFault, found, nothing, orElse, reachesBudget, scan, searchFrom, switchAt, switches, trySwitch}
+use Rattle.frame.specs.Search.{Fault, Finding, Rest, faultAt, found, nothing, orElse, reachesBudget, scan, searchFrom, switchAt, switches, trySwitch}
 
 module _ (F : Frame) where
-  abbrev Rest : Type 0
-  Rest = ℕ → (ℕ → ℕ) → ℕ → State → Finding
-
   pub scan-on : (c : ℕ → ℕ) (k t : ℕ) (s : State) → faultAt F c t s ≡ nothing → scan F c (suc k) t s ≡ scan F c k (suc t) (step F c t s)
   unfolding scan
   scan-on c k t s p = ap (λ (a : Finding). orElse a (scan F c k (suc t) (step F c t s))) p
@@ -23,13 +18,13 @@ module _ (F : Frame) where
   scan-stop c zero t s f p = p
   scan-stop c (suc k) t s f p = ap (λ (a : Finding). orElse a (scan F c k (suc t) (step F c t s))) p
 
-  pub switches-on : (r : Rest) (k : ℕ) (c : ℕ → ℕ) (t : ℕ) (s : State) → switchAt F r k c t s (F .table (s .mode) t) ≡ nothing
+  pub switches-on : (r : Rest F) (k : ℕ) (c : ℕ → ℕ) (t : ℕ) (s : State) → switchAt F r k c t s (F .table (s .mode) t) ≡ nothing
       → switches F r (suc k) c t s ≡ switches F r k c (suc t) (step F c t s)
   unfolding switches
   switches-on r k c t s p = ap (λ (a : Finding). orElse a (switches F r k c (suc t) (step F c t s))) p
 
   -- nothing is found behind switches behind which nothing is found
-  pub switches-none : (r : Rest) → ((k : ℕ) (c : ℕ → ℕ) (t : ℕ) (s : State) → r k c t s ≡ nothing) → (k : ℕ) (c : ℕ → ℕ) (t : ℕ) (s : State) → switches F r k c t s ≡ nothing
+  pub switches-none : (r : Rest F) → ((k : ℕ) (c : ℕ → ℕ) (t : ℕ) (s : State) → r k c t s ≡ nothing) → (k : ℕ) (c : ℕ → ℕ) (t : ℕ) (s : State) → switches F r k c t s ≡ nothing
   unfolding switches switchAt trySwitch
   switches-none r h zero c t s = refl
   switches-none r h (suc k) c t s =
@@ -50,13 +45,3 @@ module _ (F : Frame) where
   unfolding searchFrom
   last-mode k c t s =
       ap (orElse (scan F c k t s)) (switches-none (searchFrom F 0) (λ k c t s. refl) k c t s) ∙ or-right (scan F c k t s)
-
-  -- the first edition: table LO, then each switch, by one scan of table HI
-  pub two-levels : F .K ≡ 2 → firstFault F ≡ orElse (scan F (λ (j : ℕ). F .budget j 0) (F .L) 0 (state 0 0 [] (replicate (F .n) 0)))
-      (switches F (λ k c t s. scan F c k t s) (F .L) (λ (j : ℕ). F .budget j 0) 0 (state 0 0 [] (replicate (F .n) 0)))
-  unfolding firstFault searchFrom
-  two-levels p =
-      let c0 : ℕ → ℕ = λ j. F .budget j 0 in
-      let s0 = state 0 0 [] (replicate (F .n) 0) in
-      ap (λ (x : ℕ). searchFrom F x (F .L) c0 0 s0) p
-      ∙ ap (λ (r : Rest). orElse (scan F c0 (F .L) 0 s0) (switches F r (F .L) c0 0 s0)) (fun-ext (λ k. fun-ext (λ c. fun-ext (λ t. fun-ext (λ s. last-mode k c t s)))))

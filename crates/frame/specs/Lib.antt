@@ -2,3 +2,5 @@ pub mod Jobs
 pub mod Execution
 pub mod Search
 pub mod Demand
+pub mod TwoLevels
+pub mod Cases
