@@ -13,7 +13,8 @@ use borrow.Author.Tests.{le-ltb}
 use lib.Dec.{ltb}
 use Rattle.basics.specs.Units.{unitsOf}
 use Rattle.joblist.specs.Fields.{jobs, ordinary}
-use Rattle.late.specs.Table.{idle, entry, units}
+use Rattle.basics.specs.Marks.{idle}
+use Rattle.late.specs.Table.{entry, units}
 use Rattle.late.specs.Late.{firstUnit, firstUnits}
 use Rattle.late.proofs.Units.{Counted}
 

@@ -15,7 +15,8 @@ use Rattle.joblist.specs.Fields.{jobs, slots, deadline}
 use Rattle.joblist.specs.Answer.{largest}
 use Rattle.joblist.specs.Accepted.{Accepted}
 use Rattle.basics.specs.Limits.{Limits}
-use Rattle.late.specs.Table.{idle, entry, held, empty}
+use Rattle.basics.specs.Marks.{idle}
+use Rattle.late.specs.Table.{entry, held, empty}
 use Rattle.late.specs.Late.{holdsNext, target, move, moved}
 
 -- no deadline is past the frame

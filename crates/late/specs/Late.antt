@@ -9,7 +9,8 @@ use Rattle.basics.specs.Choice.{earliest}
 use Rattle.basics.specs.Turns.{turns}
 use Rattle.basics.specs.Find.{lowest, highest}
 use Rattle.joblist.specs.Fields.{jobs, edges, slots, arrival, deadline, ordinary, high, level, edgeIn}
-use Rattle.late.specs.Table.{idle, entry, units, allIdle, held, empty, waits}
+use Rattle.basics.specs.Marks.{idle}
+use Rattle.late.specs.Table.{entry, units, allIdle, held, empty, waits}
 use Rattle.late.specs.declared.Late.{Late}
 use Rattle.late.specs.declared.Late.the-variants.{Fine, At}
 

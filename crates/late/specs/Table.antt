@@ -6,12 +6,9 @@ use mathlib.Core.Bool.{Bool, false}
 use lib.ListN.{getD, replicate}
 use lib.Dec.{ltb, leb}
 use Rattle.basics.specs.Below.{entriesBefore}
+use Rattle.basics.specs.Marks.{idle}
 use Rattle.joblist.specs.Fields.{jobs, edges, slots}
 use Rattle.joblist.specs.Cycle.{reached}
-
--- a slot with no job
-abbrev pub idle : ℕ
-idle = 255
 
 -- the entry of slot t
 abbrev pub entry : List ℕ → ℕ → ℕ

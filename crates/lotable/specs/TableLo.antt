@@ -8,7 +8,8 @@ use lib.Dec.{leb, ltb}
 use Rattle.basics.specs.Find.{lowest}
 use Rattle.basics.specs.Turns.{turns}
 use Rattle.joblist.specs.Fields.{jobs, slots, arrival, ordinary}
-use Rattle.late.specs.Table.{idle, entry, units, allIdle, held, waits}
+use Rattle.basics.specs.Marks.{idle}
+use Rattle.late.specs.Table.{entry, units, allIdle, held, waits}
 use Rattle.late.specs.Late.{tlo, thi}
 use Rattle.lotable.specs.declared.Pick.{Pick}
 use Rattle.lotable.specs.declared.Pick.the-variants.{Low, High, Idle, Both, Early}
