@@ -22,6 +22,12 @@ orElse Fine y = y
 orElse (BothAt t) y = BothAt t
 orElse (EarlyAt t) y = EarlyAt t
 
+-- how many of l slots are made before a clash
+abbrev pub before : ℕ → Clash → ℕ
+before l Fine = l
+before l (BothAt t) = t
+before l (EarlyAt t) = t
+
 -- what is left of the late tables, and table LO as far as it is made
 pub record Tables : Type 0 where
   pub low : List ℕ
@@ -43,8 +49,8 @@ take p t (Low k) =
 take p t (High k) =
     record { low = p .low; high = set (p .high) k idle; lo = set (p .lo) t (entry (p .high) k) }
 take p t Idle = record { low = p .low; high = p .high; lo = set (p .lo) t idle }
-take p t Both = record { low = p .low; high = p .high; lo = set (p .lo) t idle }
-take p t Early = record { low = p .low; high = p .high; lo = set (p .lo) t idle }
+take p t Both = p
+take p t Early = p
 
 module _ (s : List ℕ) where
   -- job j has not all its CLO units in table LO before slot t
@@ -79,8 +85,11 @@ module _ (s : List ℕ) where
     tablesAt (suc t) = take (tablesAt t) t (pickAt (tablesAt t) t)
 
     -- the first slot with 22 or 23
+    abbrev pub clashAt : ℕ → Clash
+    clashAt t = clash t (pickAt (tablesAt t) t)
+
     unfoldable pub clashIn : Clash
-    clashIn = turns orElse Fine (λ t. clash t (pickAt (tablesAt t) t)) (slots s) 0
+    clashIn = turns orElse Fine clashAt (slots s) 0
 
   -- from the late tables, with nothing placed yet
   abbrev pub begins : Tables
