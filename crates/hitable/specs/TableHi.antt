@@ -33,7 +33,7 @@ module _ (s : List ℕ) where
   turn x y row =
       cond (isHigh x) (cond (eqb y x) (record { unit = x; row = row }) (front (row ++ (x ∷ [])) x)) (front row x)
 
-  -- a unit of job u is placed, and it has k units now: when that is its CLO-th unit, its CHI - CLO further units go to the front of the row
+  -- a unit of u is placed, its k-th: when that is a job's CLO-th unit, its CHI - CLO further units go to the front of the row
   unfoldable pub owing : ℕ → ℕ → List ℕ → List ℕ
   owing u k row =
       cond (ltb u (jobs s) && eqb k (ordinary s u)) (replicate (high s u - ordinary s u) u ++ row) row
@@ -41,7 +41,7 @@ module _ (s : List ℕ) where
   -- a unit is placed in slot t
   abbrev pub place : List ℕ → ℕ → Turn → Hi
   place table t p =
-      record { row = owing (p .unit) (units table t (p .unit) + 1) (p .row); table = set table t (p .unit) }
+      record { row = owing (p .unit) (units (set table t (p .unit)) (t + 1) (p .unit)) (p .row); table = set table t (p .unit) }
 
   module _ (lo thi : List ℕ) where
     -- at the opening of slot t; units owed after the last slot are dropped
