@@ -1,36 +1,22 @@
 -- Laws of moving late: one unit more, and where it may go.
 -- Assumes nothing.
-use Prim.Native.Nat.{ℕ, zero, suc, _+_, _-_, _≤_, _<_, max}
+use Prim.Native.Nat.{ℕ, zero, suc, _+_, _-_, _≤_, _<_}
 use mathlib.Core.Path.{_≡_, refl, _∙_}
 use mathlib.Core.Option.{Option, some, none}
 use mathlib.Core.List.{List}
 use mathlib.Core.Bool.{Bool, true, false, cond}
 use native.Mathlib.Numerals.{add-one}
 use native.Mathlib.Omega.{arith}
-use native.Mathlib.Decide.{ℕ-discrete}
 use lib.ListN.{length, set, length-set}
 use Rattle.basics.specs.Find.{find, foundOr, lowest, highest}
 use Rattle.basics.proofs.Find.{find-some}
 use Rattle.joblist.specs.Fields.{jobs, slots, deadline}
-use Rattle.joblist.specs.Answer.{largest}
 use Rattle.joblist.specs.Accepted.{Accepted}
+use Rattle.joblist.proofs.Accepted.{deadline-in-frame}
 use Rattle.basics.specs.Limits.{Limits}
 use Rattle.basics.specs.Marks.{idle}
 use Rattle.late.specs.Table.{entry, held, empty}
 use Rattle.late.specs.Late.{holdsNext, target, move, moved}
-
--- no deadline is past the frame
-largest-most : (s : List ℕ) (n j : ℕ) → j < n → deadline s j ≤ largest s n
-unfolding largest
-largest-most s zero j h = absurd (omega arith)
-largest-most s (suc n) j h = go (ℕ-discrete j n) (λ l. largest-most s n j l)
-  where
-    go : Dec (j ≡ n) → (j < n → deadline s j ≤ largest s n) → deadline s j ≤ max (largest s n) (deadline s n)
-    go (yes p) r = rw p (omega arith)
-    go (no p) r = omega (arith, r (omega arith))
-
-pub deadline-most : (lim : Limits) (s : List ℕ) (j : ℕ) → Accepted lim s → j < jobs s → deadline s j ≤ slots s
-deadline-most lim s j a h = rw (a .longest) (largest-most s (jobs s) j h)
 
 -- what is found lies where it was looked for
 pub lowest-most : (f : ℕ → Bool) (n : ℕ) → lowest f n 0 ≤ n
@@ -55,7 +41,7 @@ pub target-most : (lim : Limits) (s table : List ℕ) (j t : ℕ) → Accepted l
 unfolding target
 target-most lim s table j t a h l =
     highest-most (empty s table) t (lowest (holdsNext s table j) (deadline s j) 0) (slots s) l
-    (let d = deadline-most lim s j a h in omega (arith, lowest-most (holdsNext s table j) (deadline s j)))
+    (let d = deadline-in-frame lim s a j h in omega (arith, lowest-most (holdsNext s table j) (deadline s j)))
 
 module _ (s : List ℕ) where
   pub move-held : (table : List ℕ) (t : ℕ) → held s table t ≡ true → move s table t ≡ set (set table t idle) (target s (set table t idle) (entry table t) t) (entry table t)

@@ -9,7 +9,7 @@ use Rattle.joblist.specs.Fields.{deadline}
 use Rattle.basics.specs.Find.{lowest}
 use Rattle.basics.proofs.Find.{lowest-hit, lowest-skip, lowest-end}
 use Rattle.late.specs.Late.{holdsNext}
-use Rattle.late.proofs.Moving.{deadline-most}
+use Rattle.joblist.proofs.Accepted.{deadline-in-frame}
 use borrow.Author.Needs.{needs}
 use native.Mathlib.Omega.{arith}
 use Rattle.late.proofs.limit_of.Statement.{statement}
@@ -34,7 +34,7 @@ loop-holds : tie.Need-loop-holds Inv-loop μ-loop
 loop-holds c = (omega arith, rw (c .deadline-of .ensures .0))
 
 shared-slice-read-wide : tie.Need-shared-slice-read-wide Inv-loop μ-loop
-shared-slice-read-wide c = let h = deadline-most firstEdition (c .before .before .before .before .before .before .before .before .args .s .now) (c .before .before .before .before .before .before .before .before .args .j) (c .before .before .before .before .before .before .before .before .pre .0) (omega arith) in omega arith
+shared-slice-read-wide c = let h = deadline-in-frame firstEdition (c .before .before .before .before .before .before .before .before .args .s .now) (c .before .before .before .before .before .before .before .before .pre .0) (c .before .before .before .before .before .before .before .before .args .j) (omega arith) in omega arith
 
 wide-requires : tie.Need-wide-requires Inv-loop μ-loop
 wide-requires c κs = omega arith

@@ -4,7 +4,8 @@ use mathlib.Core.Path.{_≡_}
 use Rattle.basics.specs.Limits.{firstEdition}
 use Rattle.joblist.specs.Fields.{deadline}
 use Rattle.late.specs.Late.{holdsNext, target}
-use Rattle.late.proofs.Moving.{deadline-most, lowest-most, target-most}
+use Rattle.joblist.proofs.Accepted.{deadline-in-frame}
+use Rattle.late.proofs.Moving.{lowest-most, target-most}
 use borrow.Author.Needs.{needs}
 use native.Mathlib.Omega.{arith}
 use Rattle.late.proofs.target_of.Statement.{statement}
@@ -15,7 +16,7 @@ limit-of-requires c κs = search needs
 
 highest-empty-requires : tie.Need-highest-empty-requires
 highest-empty-requires c κs = let a = c .before .before .before .args in
-    let d = deadline-most firstEdition (a .s .now) (a .j) (c .before .before .before .pre .0) (omega arith) in
+    let d = deadline-in-frame firstEdition (a .s .now) (c .before .before .before .pre .0) (a .j) (omega arith) in
     (c .before .before .before .pre .0, omega (arith, c .limit-of .ensures, lowest-most (holdsNext (a .s .now) (a .table .now) (a .j)) (deadline (a .s .now) (a .j))))
 
 returns : tie.Need-returns
