@@ -6,16 +6,17 @@ use mathlib.Core.List.{List}
 use mathlib.Core.Bool.{Bool, true, false, cond, _&&_}
 use native.Mathlib.Numerals.{add-one}
 use native.Mathlib.Omega.{arith}
-use lib.ListN.{length, set, length-set}
+use lib.ListN.{length, set, length-set, length-replicate}
 use lib.Seq.{getD-set-other, set-getD}
 use native.Mathlib.Decide.{decLt}
 use borrow.Author.Tests.{le-ltb}
 use lib.Dec.{ltb}
 use Rattle.basics.specs.Units.{unitsOf}
-use Rattle.joblist.specs.Fields.{jobs, ordinary}
+use Rattle.joblist.specs.Fields.{jobs, slots, ordinary}
 use Rattle.basics.specs.Marks.{idle}
-use Rattle.late.specs.Table.{entry, units}
-use Rattle.late.specs.Late.{firstUnit, firstUnits}
+use Rattle.late.specs.Table.{entry, units, allIdle}
+use Rattle.late.specs.Late.{lateTable, firstUnit, firstUnits, tlo, thi}
+use Rattle.late.proofs.Moving.{late-long}
 use Rattle.late.proofs.Units.{Counted}
 
 module _ (s table : List ℕ) where
@@ -61,3 +62,12 @@ module _ (s table : List ℕ) where
     -- the unit goes
     pub first-goes : (ltb j (jobs s) && ltb (unitsOf had j) (ordinary s j)) ≡ false → set (firstUnits s table t) t idle ≡ firstUnits s table (t + 1)
     first-goes h = sym (first-step t ∙ ap (set (firstUnits s table t) t) (first-test had t j c same false h))
+
+-- the late tables have L slots
+pub tlo-long : (s : List ℕ) → length (tlo s) ≡ slots s
+unfolding tlo
+tlo-long s = late-long s 0 (allIdle s) ∙ length-replicate (slots s) idle
+
+pub thi-long : (s : List ℕ) → length (thi s) ≡ slots s
+unfolding thi
+thi-long s = first-long s (lateTable s 1 (allIdle s)) (slots s) ∙ late-long s 1 (allIdle s) ∙ length-replicate (slots s) idle

@@ -16,7 +16,8 @@ use Rattle.joblist.proofs.Accepted.{deadline-in-frame}
 use Rattle.basics.specs.Limits.{Limits}
 use Rattle.basics.specs.Marks.{idle}
 use Rattle.late.specs.Table.{entry, held, empty}
-use Rattle.late.specs.Late.{holdsNext, target, move, moved}
+use Rattle.late.specs.Late.{edfAt, holdsNext, target, move, moved, lateTable}
+use Rattle.late.proofs.Earliest.{edf-long}
 
 -- what is found lies where it was looked for
 pub lowest-most : (f : ℕ → Bool) (n : ℕ) → lowest f n 0 ≤ n
@@ -72,3 +73,8 @@ module _ (s : List ℕ) where
   unfolding moved
   moved-long table zero = refl
   moved-long table (suc k) = move-long (moved s table k) (slots s - 1 - k) ∙ moved-long table k
+
+  -- a late table has as many slots as what it is made in
+  pub late-long : (v : ℕ) (start : List ℕ) → length (lateTable s v start) ≡ length start
+  unfolding lateTable
+  late-long v start = moved-long (edfAt s v start (slots s)) (slots s) ∙ edf-long s v start (slots s)

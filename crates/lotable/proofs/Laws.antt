@@ -1,13 +1,15 @@
 -- Laws of table LO: one slot more, and where the units come from.
 -- Assumes nothing.
-use Prim.Native.Nat.{ℕ, _+_, _≤_, _<_}
+use Prim.Native.Nat.{ℕ, _+_, _≤_, _<_, zero, suc}
 use mathlib.Core.Path.{_≡_, refl, sym, ap, _∙_}
 use mathlib.Core.List.{List}
 use mathlib.Core.Bool.{Bool, true, false, cond}
 use native.Mathlib.Numerals.{add-one}
 use native.Mathlib.Omega.{arith}
 use borrow.Author.Tests.{ltb-true}
+use lib.ListN.{length, length-set}
 use lib.Dec.{ltb}
+use Rattle.basics.specs.Marks.{idle}
 use Rattle.basics.specs.Turns.{turns}
 use Rattle.basics.specs.Find.{lowest}
 use Rattle.basics.specs.Units.{unitsOf}
@@ -110,3 +112,16 @@ module _ (s : List ℕ) (named : (e : ℕ) → e < edges s → edgeFrom s (jobs 
 
   pub clash-is : (p : Pick) → pick s (marked waiting) (now .low) (now .high) t ≡ p → clashAt s start t ≡ clash t p
   clash-is p e = ap (clash t) (picked p e)
+
+-- table LO has as many slots as what it is made in
+lo-take : (p : Tables) (t : ℕ) (k : Pick) → length ((take p t k) .lo) ≡ length (p .lo)
+lo-take p t (Low k) = length-set (p .lo) t (entry (p .low) k)
+lo-take p t (High k) = length-set (p .lo) t (entry (p .high) k)
+lo-take p t Idle = length-set (p .lo) t idle
+lo-take p t Both = refl
+lo-take p t Early = refl
+
+pub lo-long : (s : List ℕ) (start : Tables) (t : ℕ) → length ((tablesAt s start t) .lo) ≡ length (start .lo)
+unfolding tablesAt
+lo-long s start zero = refl
+lo-long s start (suc t) = lo-take (tablesAt s start t) t (pickAt s (tablesAt s start t) t) ∙ lo-long s start t
