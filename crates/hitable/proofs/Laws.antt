@@ -5,7 +5,7 @@ use mathlib.Core.Path.{_≡_, refl, sym, ap, _∙_}
 use mathlib.Core.List.{List, [], _∷_, _++_, append-assoc, append-nil}
 use native.Mathlib.Numerals.{add-one}
 use native.Mathlib.Omega.{arith}
-use lib.ListN.{length, getD, set, replicate}
+use lib.ListN.{length, getD, set, replicate, length-set}
 use lib.Seq.{getD-set-same, getD-set-other}
 use borrow.Author.Tests.{lt-ltb, le-ltb, eq-eqb, ne-eqb}
 use Rattle.joblist.specs.Fields.{jobs, ordinary, high}
@@ -117,3 +117,9 @@ module _ (s lo thi start : List ℕ) where
       → u ≡ (turn s (entry lo t) (entry thi t) row) .unit → left ≡ (turn s (entry lo t) (entry thi t) row) .row
       → next ≡ owing s u (units (set table t u) (t + 1) u) left → hiAt s lo thi start (t + 1) ≡ record { row = next; table = set table t u }
   hi-next t row table e u left next p q r = hi-step t ∙ rw (e, ← p, ← q, ← r)
+
+  -- table HI has as many slots as what it is made in
+  pub hi-long : (t : ℕ) → length ((hiAt s lo thi start t) .table) ≡ length start
+  unfolding hiAt
+  hi-long zero = refl
+  hi-long (suc t) = length-set ((hiAt s lo thi start t) .table) t _ ∙ hi-long t

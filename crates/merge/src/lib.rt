@@ -13,11 +13,11 @@ ghost use mathlib.Core.Path.{_≡_};
 ghost use Prim.Native.Nat.{ℕ, _+_, _≤_};
 ghost use lib.ListN.{length};
 ghost use Rattle.basics.specs.Limits.{firstEdition};
-ghost use Rattle.joblist.specs.Fields.{slots};
+ghost use Rattle.joblist.specs.Fields.{jobs, edges, slots};
 ghost use Rattle.joblist.specs.Answer.{listAnswer};
 ghost use Rattle.joblist.specs.Accepted.{Accepted};
 ghost use Rattle.joblist.specs.declared.ListAnswer.the-variants.{Good};
-ghost use Rattle.planfile.specs.Plan.{trailerBytes};
+ghost use Rattle.planfile.specs.Plan.{planBytes};
 ghost use Rattle.late.specs.Table.{allIdle};
 ghost use Rattle.late.specs.Late.{lateOf, tlo, thi};
 ghost use Rattle.merge.specs.Build.{ofLate, ofClash, pairOf, builtLo, builtHi, buildOf, outAfter};
@@ -169,4 +169,30 @@ fn make_pair(list: &[u8], low: &mut [u8], high: &mut [u8], left: &mut [u8], lo: 
     };
     table_hi(list, lo, high, hi);
     Pair::Made
+}
+
+// The plan of an accepted list into out, which has room for it. All five tables are of L bytes and idle.
+fn build_in(
+    list: &[u8],
+    low: &mut [u8],
+    high: &mut [u8],
+    left: &mut [u8],
+    lo: &mut [u8],
+    hi: &mut [u8],
+    out: &mut [u8],
+) -> Built
+    requires { ⌜ (listAnswer firstEdition (now list) ≡ Good) × (now low ≡ allIdle (now list)) × (now high ≡ allIdle (now list)) × (now left ≡ allIdle (now list))
+        × (now lo ≡ allIdle (now list)) × (now hi ≡ allIdle (now list)) × (planBytes (jobs (now list)) (edges (now list)) (slots (now list)) ≤ length (now out)) ⌝ }
+    ensures { λ r. ⌜ (r ≡ buildOf firstEdition (now (list .entry)) (length (now (out .entry))))
+        × (now (out .exit) ≡ outAfter firstEdition (now (list .entry)) (now (out .entry))) ⌝ }
+{
+    let p = make_pair(list, low, high, left, lo, hi);
+    if let Pair::No(w) = p {
+        return Built::No(w);
+    }
+    let v = verdict::check(list, lo, hi);
+    let Verdict::Yes = v else {
+        return Built::No(BuildWhy::Rejected(v));
+    };
+    Built::Plan(planfile::put_plan(list, lo, hi, out))
 }
