@@ -4,12 +4,12 @@ use Rattle.basics.specs.Marks.{idle}
 use Rattle.joblist.specs.Fields.{jobs, edges, slots}
 use Rattle.basics.specs.Limits.{Limits}
 use borrow.Author.Tests.{le-leb, lt-leb}
-use Prim.Native.Nat.{ℕ, _+_, _<_, _≤_}
+use Prim.Native.Nat.{ℕ, _+_, _<_, _≤_, zero, suc}
 use mathlib.Core.Path.{_≡_, refl, sym, ap, _∙_}
-use mathlib.Core.List.{List}
+use mathlib.Core.List.{List, _∷_}
 use native.Mathlib.Omega.{arith}
 use native.Mathlib.Decide.{ℕ-discrete}
-use lib.ListN.{length, getD, set, length-replicate}
+use lib.ListN.{length, getD, set, length-replicate, take, replicate}
 use lib.Seq.{getD-set-same, getD-set-other}
 use Rattle.late.specs.Table.{allIdle}
 use Rattle.late.specs.Late.{thi}
@@ -89,3 +89,12 @@ built-lo-long s = lo-long s (begins s) (slots s) ∙ length-replicate (slots s) 
 pub built-hi-long : (s : List ℕ) → length (builtHi s) ≡ slots s
 unfolding builtHi tableHi
 built-hi-long s = hi-long s (tableLo s) (thi s) (allIdle s) (slots s) ∙ length-replicate (slots s) idle
+
+-- the front of idle room is an idle table
+pub idle-front : (l k : ℕ) → l ≤ k → take l (replicate k idle) ≡ replicate l idle
+idle-front zero k h = refl
+idle-front (suc l) zero h = absurd (omega arith)
+idle-front (suc l) (suc k) h = ap (λ x. idle ∷ x) (idle-front l k (omega arith))
+
+pub idle-front-long : (l k : ℕ) → l ≤ k → l ≡ length (take l (replicate k idle))
+idle-front-long l k h = sym (ap length (idle-front l k h) ∙ length-replicate l idle)

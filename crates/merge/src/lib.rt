@@ -152,7 +152,14 @@ fn late_tables(list: &[u8], low: &mut [u8], high: &mut [u8]) -> Pair
 }
 
 // The pair into lo and hi: 20 to 23 otherwise. All five tables are of L bytes and idle.
-fn make_pair(list: &[u8], low: &mut [u8], high: &mut [u8], left: &mut [u8], lo: &mut [u8], hi: &mut [u8]) -> Pair
+fn make_pair(
+    list: &[u8],
+    low: &mut [u8],
+    high: &mut [u8],
+    left: &mut [u8],
+    lo: &mut [u8],
+    hi: &mut [u8],
+) -> Pair
     requires { ⌜ Accepted firstEdition (now list) × (now low ≡ allIdle (now list)) × (now high ≡ allIdle (now list)) × (now left ≡ allIdle (now list))
         × (now lo ≡ allIdle (now list)) × (now hi ≡ allIdle (now list)) ⌝ }
     ensures { λ r. ⌜ (r ≡ pairOf (now (list .entry)))
@@ -195,4 +202,33 @@ fn build_in(
         return Built::No(BuildWhy::Rejected(v));
     };
     Built::Plan(planfile::put_plan(list, lo, hi, out))
+}
+
+// Builds the plan of a list at the front of `out`; a refusal changes no byte of it.
+pub fn build(list: &[u8], out: &mut [u8]) -> Built
+    ensures { λ r. ⌜ (r ≡ buildOf firstEdition (now (list .entry)) (length (now (out .entry))))
+        × (now (out .exit) ≡ outAfter firstEdition (now (list .entry)) (now (out .entry))) ⌝ }
+{
+    let a = joblist::check_list(list);
+    if let ListAnswer::No(w) = a {
+        return Built::No(BuildWhy::OfList(w));
+    }
+    let l = joblist::slots_of(list);
+    if out.len() < list.len() + 2 * l + TRAILER_BYTES {
+        return Built::No(BuildWhy::Room);
+    }
+    let mut low = [IDLE; MOST_SLOTS];
+    let mut high = [IDLE; MOST_SLOTS];
+    let mut left = [IDLE; MOST_SLOTS];
+    let mut lo = [IDLE; MOST_SLOTS];
+    let mut hi = [IDLE; MOST_SLOTS];
+    build_in(
+        list,
+        &mut low[..l],
+        &mut high[..l],
+        &mut left[..l],
+        &mut lo[..l],
+        &mut hi[..l],
+        out,
+    )
 }

@@ -2,37 +2,14 @@
 -- Assumes nothing.
 use Rattle.merge.proofs.Laws.{refused-pair, refused-check, built, built-lo-long, built-hi-long}
 use Rattle.merge.specs.declared.Built.the-variants.{Plan}
-use borrow.Author.Tests.{lt-ltb, le-ltb, le-leb, lt-leb, eq-eqb, ne-eqb}
-use mathlib.Core.Path.{_≡_, _∙_, sym, ap, ap₂, refl}
-use Prim.Native.Nat.{ℕ, _≤_, _-_, _<_, _+_, _*_}
-use mathlib.Core.Logic.{_⊎_, inl, inr}
-use mathlib.Core.Bool.{Bool, true, false, cond}
-use mathlib.Core.List.{List, [], _∷_, _++_}
-use lib.ListN.{length, getD, set, take, drop, length-set, length-append, length-replicate, replicate}
-use lib.Seq.{getD-set-same, getD-set-other, ext-getD}
-use lib.Dec.{eqb, ltb, leb}
+use mathlib.Core.Path.{_∙_, sym, ap}
 use Rattle.basics.specs.Limits.{firstEdition}
-use Rattle.basics.specs.Marks.{idle}
-use Rattle.joblist.specs.Fields.{jobs, edges, slots}
-use Rattle.joblist.specs.Answer.{listAnswer}
-use Rattle.joblist.specs.Accepted.{Accepted}
 use Rattle.joblist.proofs.Accepted.{accepted, list-length}
-use Rattle.late.specs.Table.{allIdle}
-use Rattle.late.specs.Late.{edfAt, lateAnswer, lateTable, firstUnits, lateOf, tlo, thi}
-use Rattle.late.proofs.Moving.{late-long}
-use Rattle.late.proofs.First.{first-long}
-use Rattle.merge.specs.Numbers.{whyPlace, builtPlace}
-use Rattle.merge.specs.Build.{ofLate, ofClash, andThen, pairOf, builtLo, builtHi, mergePlan, ofList, need, ofPair, ofCheck, buildOf, filled, outAfter}
-
+use Rattle.merge.specs.Build.{mergePlan}
 use borrow.Author.Needs.{needs}
 use native.Mathlib.Omega.{arith}
 use Rattle.merge.proofs.build_in.Statement.{statement}
 use Rattle.merge.proofs.build_in.Tie as tie
-use Rattle.merge.proofs.build_in.Reads as reads
-use Rattle.merge.proofs.build_in.Lts as lts
-use Rattle.merge.proofs.make_pair.Reads as make-pair-reads
-use Rattle.planfile.proofs.put_plan.Reads as put-plan-reads
-use Rattle.verdict.proofs.check.Reads as check-reads
 
 make-pair-requires : tie.Need-make-pair-requires
 make-pair-requires c κs = let p = c .before .before .before .before .before .before .before .before .before .before .before .before .pre in (accepted firstEdition _ (p .0), p .1, p .2, p .3, p .4, p .5)

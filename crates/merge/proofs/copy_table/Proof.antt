@@ -1,33 +1,14 @@
 -- `merge::copy_table` meets its contract: the slots below t are copied.
 -- Assumes nothing.
 use Rattle.merge.proofs.Laws.{copied-next}
-use borrow.Author.Tests.{lt-ltb, le-ltb, le-leb, lt-leb, eq-eqb, ne-eqb}
-use mathlib.Core.Path.{_≡_, _∙_, sym, ap, ap₂, refl}
-use Prim.Native.Nat.{ℕ, _≤_, _-_, _<_, _+_, _*_}
-use mathlib.Core.Logic.{_⊎_, inl, inr}
-use mathlib.Core.Bool.{Bool, true, false, cond}
-use mathlib.Core.List.{List, [], _∷_, _++_}
-use lib.ListN.{length, getD, set, take, drop, length-set, length-append, length-replicate, replicate}
-use lib.Seq.{getD-set-same, getD-set-other, ext-getD}
-use lib.Dec.{eqb, ltb, leb}
-use Rattle.basics.specs.Limits.{firstEdition}
-use Rattle.basics.specs.Marks.{idle}
-use Rattle.joblist.specs.Fields.{jobs, edges, slots}
-use Rattle.joblist.specs.Answer.{listAnswer}
-use Rattle.joblist.specs.Accepted.{Accepted}
-use Rattle.joblist.proofs.Accepted.{accepted, list-length}
-use Rattle.late.specs.Table.{allIdle}
-use Rattle.late.specs.Late.{edfAt, lateAnswer, lateTable, firstUnits, lateOf, tlo, thi}
-use Rattle.late.proofs.Moving.{late-long}
-use Rattle.late.proofs.First.{first-long}
-use Rattle.merge.specs.Numbers.{whyPlace, builtPlace}
-use Rattle.merge.specs.Build.{ofLate, ofClash, andThen, pairOf, builtLo, builtHi, mergePlan, ofList, need, ofPair, ofCheck, buildOf, filled, outAfter}
+use mathlib.Core.Path.{_≡_, refl}
+use Prim.Native.Nat.{ℕ, _≤_, _-_, _<_}
+use lib.ListN.{length, getD, length-set}
+use lib.Seq.{ext-getD}
 use borrow.Author.Needs.{needs}
 use native.Mathlib.Omega.{arith}
 use Rattle.merge.proofs.copy_table.Statement.{statement}
 use Rattle.merge.proofs.copy_table.Tie as tie
-use Rattle.merge.proofs.copy_table.Reads as reads
-use Rattle.merge.proofs.copy_table.Lts as lts
 
 abbrev Inv-loop : tie.InvT-loop
 Inv-loop from to₀ t₀ t-end to t = (t ≤ t-end) × (length to ≡ length to₀) × ((x : ℕ) → x < t → getD to x 0 ≡ getD «from» x 0)

@@ -1,35 +1,16 @@
 -- `merge::late_tables` meets its contract.
 -- Assumes nothing.
-use borrow.Author.Tests.{lt-ltb, le-ltb, le-leb, lt-leb, eq-eqb, ne-eqb}
-use mathlib.Core.Path.{_≡_, _∙_, sym, ap, ap₂, refl}
-use Prim.Native.Nat.{ℕ, _≤_, _-_, _<_, _+_, _*_}
-use mathlib.Core.Logic.{_⊎_, inl, inr}
-use mathlib.Core.Bool.{Bool, true, false, cond}
-use mathlib.Core.List.{List, [], _∷_, _++_}
-use lib.ListN.{length, getD, set, take, drop, length-set, length-append, length-replicate, replicate}
-use lib.Seq.{getD-set-same, getD-set-other, ext-getD}
-use lib.Dec.{eqb, ltb, leb}
-use Rattle.basics.specs.Limits.{firstEdition}
-use Rattle.basics.specs.Marks.{idle}
-use Rattle.joblist.specs.Fields.{jobs, edges, slots}
-use Rattle.joblist.specs.Answer.{listAnswer}
-use Rattle.joblist.specs.Accepted.{Accepted}
-use Rattle.joblist.proofs.Accepted.{accepted, list-length}
-use Rattle.late.specs.Table.{allIdle}
-use Rattle.late.specs.Late.{edfAt, lateAnswer, lateTable, firstUnits, lateOf, tlo, thi}
+use mathlib.Core.Path.{_∙_, ap, ap₂}
+use Prim.Native.Nat.{ℕ}
+use mathlib.Core.List.{List}
+use lib.ListN.{length, length-replicate}
+use Rattle.joblist.specs.Fields.{slots}
+use Rattle.late.specs.Late.{firstUnits, lateOf, tlo, thi}
 use Rattle.late.proofs.Moving.{late-long}
-use Rattle.late.proofs.First.{first-long}
-use Rattle.merge.specs.Numbers.{whyPlace, builtPlace}
-use Rattle.merge.specs.Build.{ofLate, ofClash, andThen, pairOf, builtLo, builtHi, mergePlan, ofList, need, ofPair, ofCheck, buildOf, filled, outAfter}
+use Rattle.merge.specs.Build.{ofLate}
 use borrow.Author.Needs.{needs}
-use native.Mathlib.Omega.{arith}
 use Rattle.merge.proofs.late_tables.Statement.{statement}
 use Rattle.merge.proofs.late_tables.Tie as tie
-use Rattle.merge.proofs.late_tables.Reads as reads
-use Rattle.merge.proofs.late_tables.Lts as lts
-use Rattle.late.proofs.keep_first.Reads as keep-first-reads
-use Rattle.late.proofs.late_table.Reads as late-table-reads
-use Rattle.merge.proofs.late_answer.Reads as late-answer-reads
 
 late-table-requires : tie.Need-late-table-requires
 late-table-requires c κs = (c .before .before .before .before .pre .0, ap length (c .before .before .before .before .pre .1) ∙ length-replicate _ _)

@@ -1,42 +1,18 @@
 -- `merge::make_pair` meets its contract.
 -- Assumes nothing.
 use Rattle.lotable.proofs.Laws.{lo-long}
-use borrow.Author.Tests.{lt-ltb, le-ltb, le-leb, lt-leb, eq-eqb, ne-eqb}
-use mathlib.Core.Path.{_≡_, _∙_, sym, ap, ap₂, refl}
-use Prim.Native.Nat.{ℕ, _≤_, _-_, _<_, _+_, _*_}
-use mathlib.Core.Logic.{_⊎_, inl, inr}
-use mathlib.Core.Bool.{Bool, true, false, cond}
-use mathlib.Core.List.{List, [], _∷_, _++_}
-use lib.ListN.{length, getD, set, take, drop, length-set, length-append, length-replicate, replicate}
-use lib.Seq.{getD-set-same, getD-set-other, ext-getD}
-use lib.Dec.{eqb, ltb, leb}
-use Rattle.basics.specs.Limits.{firstEdition}
-use Rattle.basics.specs.Marks.{idle}
-use Rattle.joblist.specs.Fields.{jobs, edges, slots}
-use Rattle.joblist.specs.Answer.{listAnswer}
-use Rattle.joblist.specs.Accepted.{Accepted}
-use Rattle.joblist.proofs.Accepted.{accepted, list-length}
-use Rattle.late.specs.Table.{allIdle}
-use Rattle.late.specs.Late.{edfAt, lateAnswer, lateTable, firstUnits, lateOf, tlo, thi}
-use Rattle.late.proofs.Moving.{late-long}
-use Rattle.late.proofs.First.{first-long}
-use Rattle.merge.specs.Numbers.{whyPlace, builtPlace}
-use Rattle.merge.specs.Build.{ofLate, ofClash, andThen, pairOf, builtLo, builtHi, mergePlan, ofList, need, ofPair, ofCheck, buildOf, filled, outAfter}
+use mathlib.Core.Path.{_≡_, _∙_, sym, ap}
+use Prim.Native.Nat.{ℕ}
+use lib.ListN.{length, length-replicate}
+use Rattle.merge.specs.Build.{pairOf, builtHi}
 use Rattle.late.proofs.First.{tlo-long, thi-long}
-use Rattle.lotable.specs.TableLo.{before, Tables, begins, tablesAt, clashIn, clashOf, tableLo}
-use Rattle.hitable.specs.TableHi.{hiAt, tableHi}
+use Rattle.lotable.specs.TableLo.{before, Tables, clashOf, tableLo}
+use Rattle.hitable.specs.TableHi.{tableHi}
 use Rattle.merge.proofs.Laws.{made-fine}
 use borrow.Author.Needs.{needs}
 use native.Mathlib.Omega.{arith}
 use Rattle.merge.proofs.make_pair.Statement.{statement}
 use Rattle.merge.proofs.make_pair.Tie as tie
-use Rattle.merge.proofs.make_pair.Reads as reads
-use Rattle.merge.proofs.make_pair.Lts as lts
-use Rattle.hitable.proofs.table_hi.Reads as table-hi-reads
-use Rattle.lotable.proofs.table_lo.Reads as table-lo-reads
-use Rattle.merge.proofs.clash_answer.Reads as clash-answer-reads
-use Rattle.merge.proofs.copy_table.Reads as copy-table-reads
-use Rattle.merge.proofs.late_tables.Reads as late-tables-reads
 
 late-tables-requires : tie.Need-late-tables-requires
 late-tables-requires c κs = search needs
