@@ -1,0 +1,5 @@
+pub mod Marks
+pub mod Facts
+pub mod Book
+pub mod Steps
+pub mod Order

@@ -1,0 +1,5 @@
+pub mod Marks
+pub mod Scan
+pub mod Tick
+pub mod Machine
+pub mod Numbers
