@@ -2,4 +2,3 @@ pub mod Marks
 pub mod Facts
 pub mod Book
 pub mod Steps
-pub mod Order

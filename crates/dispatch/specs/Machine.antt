@@ -9,7 +9,7 @@ use Rattle.basics.specs.Choice.{pick}
 use Rattle.basics.specs.Below.{allOf}
 use Rattle.basics.specs.Limits.{Limits}
 use Rattle.dispatch.specs.Marks.{isSet, idle}
-use Rattle.dispatch.specs.Scan.{sizesOk, byteOk, tablesOk, edgesOk, jobsOk, unitsOk, namedIn, bump, pastHigh, mayRun}
+use Rattle.dispatch.specs.Scan.{sizesOk, byteOk, tablesOk, edgesOk, jobsOk, unitsOk, namedIn, bump, pastHigh, choiceIn}
 use Rattle.dispatch.specs.Tick.{difference, tickOf}
 use Rattle.dispatch.specs.declared.plan.Plan.{Plan}
 use Rattle.dispatch.specs.declared.state.State.{State}
@@ -61,14 +61,10 @@ isHigh s j = eqb (getD (s .plan .level) j 0) 1
 abbrev pub namedOf : State → ℕ
 namedOf s = namedIn (s .plan .lo) (s .plan .hi) (s .high) (s .slot)
 
--- whether job j may run in the slot
-abbrev pub mayRunOf : State → ℕ → Bool
-mayRunOf s j =
-    mayRun (s .done) (s .cut) (s .plan .arrival) (s .plan .deadline) (s .plan .level) (s .plan .from) (s .plan .to) (s .plan .m) (s .high) (s .slot) j
-
 -- the named job if it may run, else idle
-unfoldable pub choiceOf : State → ℕ
-choiceOf s = pick (eqb (namedOf s) idle) idle (pick (mayRunOf s (namedOf s)) (namedOf s) idle)
+abbrev pub choiceOf : State → ℕ
+choiceOf s =
+    choiceIn (s .done) (s .cut) (s .plan .arrival) (s .plan .deadline) (s .plan .level) (s .plan .from) (s .plan .to) (s .plan .m) (s .high) (s .slot) (namedOf s)
 
 unfoldable pub orderOf : State → Stepped
 orderOf s = says (Order (choiceOf s)) (withOrdered s (choiceOf s))

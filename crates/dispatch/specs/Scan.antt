@@ -76,3 +76,8 @@ mayRun done cut arrival deadline level from to m high slot j =
     not (isSet (getD done j 0)) ∷ not (isSet (getD cut j 0)) ∷ leb (getD arrival j 0) slot
     ∷ not (lateLow deadline level high slot j) ∷ predsDone from to m done j ∷ []
     )
+
+-- the named job if it may run, else idle
+unfoldable pub choiceIn : List ℕ → List ℕ → List ℕ → List ℕ → List ℕ → List ℕ → List ℕ → ℕ → ℕ → ℕ → ℕ → ℕ
+choiceIn done cut arrival deadline level from to m high slot named =
+    pick (eqb named idle) idle (pick (mayRun done cut arrival deadline level from to m high slot named) named idle)

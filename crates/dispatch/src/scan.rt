@@ -3,7 +3,8 @@ ghost use mathlib.Core.Path.{_≡_};
 ghost use Prim.Native.Nat.{ℕ, _≤_, _<_};
 ghost use lib.ListN.{getD};
 ghost use Rattle.basics.specs.Limits.{firstEdition};
-ghost use Rattle.dispatch.specs.Scan.{sizesOk, byteOk, tablesOk, edgesOk, jobsOk, unitsOk, predsDone, namedIn, bump, pastHigh, lateLow, mayRun};
+ghost use Rattle.dispatch.specs.Scan.{sizesOk, byteOk, tablesOk, edgesOk, jobsOk, unitsOk, predsDone, namedIn, bump, pastHigh, lateLow, mayRun, choiceIn};
+ghost use Rattle.dispatch.specs.Marks.{idle};
 use crate::limits::BUDGET;
 use crate::limits::EDGES;
 use crate::limits::JOBS;
@@ -224,7 +225,7 @@ fn late_low<'a>(
 }
 
 // Whether job x may run in the slot.
-pub fn may_run<'a>(
+fn may_run<'a>(
     done: &'a [u8; JOBS],
     cut: &'a [u8; JOBS],
     arrival: &'a [u16; JOBS],
@@ -256,4 +257,44 @@ pub fn may_run<'a>(
         return false;
     }
     preds_done(from, to, m, done, x)
+}
+
+// The named job if it may run, else idle.
+pub fn choice<'a>(
+    done: &'a [u8; JOBS],
+    cut: &'a [u8; JOBS],
+    arrival: &'a [u16; JOBS],
+    deadline: &'a [u16; JOBS],
+    level: &'a [u8; JOBS],
+    from: &'a [u8; EDGES],
+    to: &'a [u8; EDGES],
+    m: usize,
+    high: u8,
+    slot: u16,
+    named: u8,
+) -> u8
+    requires { ⌜ ((named ≡ idle → ⊥) → named < 64) ⌝ }
+    requires { ⌜ m ≤ 256 ⌝ }
+    requires { ⌜ ((e : ℕ) → e < m → getD (now from) e 0 < 64) ⌝ }
+    ensures { λ r. ⌜ r ≡ choiceIn (now (done .entry)) (now (cut .entry)) (now (arrival .entry)) (now (deadline .entry)) (now (level .entry)) (now (from .entry)) (now (to .entry)) m high slot named ⌝ }
+{
+    if named == Plan::IDLE {
+        return Plan::IDLE;
+    }
+    if may_run(
+        done,
+        cut,
+        arrival,
+        deadline,
+        level,
+        from,
+        to,
+        m,
+        high,
+        slot,
+        named,
+    ) {
+        return named;
+    }
+    Plan::IDLE
 }

@@ -5,7 +5,7 @@ ghost use Prim.Native.Nat.{_<_, _-_};
 ghost use Rattle.basics.specs.Limits.{firstEdition};
 ghost use Rattle.dispatch.specs.Marks.{idle};
 ghost use Rattle.dispatch.specs.Tick.{tickOf};
-ghost use Rattle.dispatch.specs.Machine.{planOk, stateOk, switchOf, haltOf, openFrameOf, bookOf, moveOf, orderOf, goOf, endOf, nextOf, onTick, freshOf, noState, stepOf, says, withOrdered};
+ghost use Rattle.dispatch.specs.Machine.{planOk, stateOk, switchOf, haltOf, openFrameOf, bookOf, moveOf, orderOf, goOf, endOf, nextOf, onTick, freshOf, noState, stepOf, says};
 use crate::answer::Answer;
 use crate::answer::Why;
 use crate::limits::JOBS;
@@ -176,30 +176,16 @@ impl State {
         self.open_frame()
     }
 
-    // The order is job x, or idle.
-    fn give(mut self, x: u8) -> Stepped
-        ensures { λ r. ⌜ r ≡ says (Answer.Order x) (withOrdered self x) ⌝ }
-    {
-        self.ordered = x;
-        Stepped {
-            answer: Answer::Order(x),
-            state: self,
-        }
-    }
-
     // The named job if it may run, else idle.
-    fn order(self) -> Stepped
+    fn order(mut self) -> Stepped
         requires { ⌜ planOk firstEdition (self .plan) ≡ true ⌝ }
         requires { ⌜ self .slot < self .plan .len ⌝ }
         ensures { λ r. ⌜ r ≡ orderOf self ⌝ }
     {
         let slot = self.slot;
-        let x = scan::named(&self.plan.lo, &self.plan.hi, self.high, slot as usize);
-        if x == Plan::IDLE {
-            return self.give(Plan::IDLE);
-        }
         let m = self.plan.m as usize;
-        let may = scan::may_run(
+        let named = scan::named(&self.plan.lo, &self.plan.hi, self.high, slot as usize);
+        let x = scan::choice(
             &self.done,
             &self.cut,
             &self.plan.arrival,
@@ -210,12 +196,13 @@ impl State {
             m,
             self.high,
             slot,
-            x,
+            named,
         );
-        if may {
-            return self.give(x);
+        self.ordered = x;
+        Stepped {
+            answer: Answer::Order(x),
+            state: self,
         }
-        self.give(Plan::IDLE)
     }
 
     // The tick is taken, and the next slot has its order.
@@ -244,7 +231,13 @@ impl State {
         ensures { λ r. ⌜ r ≡ endOf firstEdition self tick ended ⌝ }
     {
         let j = self.ordered;
-        if scan::past_high(&self.plan.level, &self.plan.chi, &self.units, j as usize, ended) {
+        if scan::past_high(
+            &self.plan.level,
+            &self.plan.chi,
+            &self.units,
+            j as usize,
+            ended,
+        ) {
             let s = self.halt();
             return s.refuse(Why::PastHigh(j));
         }
