@@ -7,8 +7,9 @@ use mathlib.Core.List.{List}
 use native.Mathlib.Omega.{arith}
 use lib.ListN.{getD}
 use lib.Dec.{eqb, ltb}
-use borrow.Author.Tests.{ltb-true, leb-true, ne-eqb}
+use borrow.Author.Tests.{ltb-true, leb-true, ne-eqb, lt-ltb}
 use Rattle.basics.specs.Choice.{pick}
+use Rattle.basics.specs.Below.{allOf}
 use Rattle.basics.specs.Limits.{Limits}
 use Rattle.basics.proofs.Choice.{pick-both}
 use Rattle.basics.proofs.Below.{every, all-at}
@@ -69,6 +70,10 @@ module _ (lim : Limits) where
   state-facts s h =
       let e = every _ h in
       record { plan-ok = e .0; slot-low = ltb-true _ _ (e .1 .0); ordered-ok = e .1 .1 .0; units-ok = e .1 .1 .1 .0 }
+
+  pub state-sound : (s : State) → StateFacts s → stateOk lim s ≡ true
+  unfolding stateOk allOf
+  state-sound s f = rw (f .plan-ok, lt-ltb _ _ (f .slot-low), f .ordered-ok, f .units-ok)
 
   -- the job ordered last, where there is one
   pub job-top : (s : State) → stateOk lim s ≡ true → (s .ordered ≡ idle → ⊥) → s .ordered < lim .jobs

@@ -3,3 +3,4 @@ pub mod Scan
 pub mod Tick
 pub mod Machine
 pub mod Numbers
+pub mod Runs
