@@ -5,3 +5,4 @@ pub mod Steps
 pub mod Did
 pub mod Keeps
 pub mod Sound
+pub mod Slots
