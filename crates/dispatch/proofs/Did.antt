@@ -20,6 +20,16 @@ use Rattle.dispatch.specs.Tick.{tickOf}
 use Rattle.dispatch.specs.Machine.{stateOk, bookOf, goOf, endOf, nextOf, onTick, stepOf, says, haltOf}
 use Rattle.dispatch.specs.Runs.{refusedOf}
 
+-- what a state has, and has halted, it has after any refusal
+pub refused-has : (P : State → Type 0) (w : Why) (s : State) → P s → P (haltOf s) → P (refusedOf w s)
+refused-has P BadState s a b = a
+refused-has P Halted s a b = a
+refused-has P SameTick s a b = a
+refused-has P StaleTick s a b = a
+refused-has P TicksLost s a b = b
+refused-has P NoJob s a b = a
+refused-has P (PastHigh j) s a b = b
+
 module _ (lim : Limits) (s : State) (tick : ℕ) (e : Bool) where
   -- sound and not halted
   abbrev pub Live : Type 0

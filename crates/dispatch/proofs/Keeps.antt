@@ -12,23 +12,13 @@ use Rattle.dispatch.specs.declared.state.Stepped.{Stepped}
 use Rattle.dispatch.specs.declared.answer.Answer.{Answer}
 use Rattle.dispatch.specs.declared.answer.Answer.the-variants.{Order, No}
 use Rattle.dispatch.specs.declared.answer.Why.{Why}
-use Rattle.dispatch.specs.declared.answer.Why.the-variants.{BadState, Halted, SameTick, StaleTick, TicksLost, NoJob, PastHigh}
+use Rattle.dispatch.specs.declared.answer.Why.the-variants.{Halted}
 use Rattle.dispatch.specs.Marks.{isSet}
 use Rattle.dispatch.specs.Machine.{stateOk, bookOf, orderOf, goOf, stepOf, says}
 use Rattle.dispatch.specs.Runs.{Given, answersBy, stateBy, answersOf, stateOf, refusedOf}
 use Rattle.dispatch.proofs.Facts.{move-plan}
 use Rattle.dispatch.proofs.Steps.{step-halted}
-use Rattle.dispatch.proofs.Did.{Did, refused, taken, Booked, was-idle, was-job, did}
-
--- a refusal leaves the plan
-pub refused-plan : (w : Why) (s : State) → refusedOf w s .plan ≡ s .plan
-refused-plan BadState s = refl
-refused-plan Halted s = refl
-refused-plan SameTick s = refl
-refused-plan StaleTick s = refl
-refused-plan TicksLost s = refl
-refused-plan NoJob s = refl
-refused-plan (PastHigh j) s = refl
+use Rattle.dispatch.proofs.Did.{refused-has, Did, refused, taken, Booked, was-idle, was-job, did}
 
 module _ (lim : Limits) where
   module _ (s : State) (tick : ℕ) (e : Bool) where
@@ -51,7 +41,7 @@ module _ (lim : Limits) where
         booked b (was-job ne) = refl
 
         go : (x : Stepped) → Did lim s tick e x → x .state .plan ≡ s .plan
-        go x (refused {w = w} y) = refused-plan w s
+        go x (refused {w = w} y) = refused-has (λ t. t .plan ≡ s .plan) w s refl refl
         go x (taken a b c) = move-plan lim _ tick ∙ booked _ c
 
   -- nor does a run

@@ -6,3 +6,5 @@ pub mod Did
 pub mod Keeps
 pub mod Sound
 pub mod Slots
+pub mod Shift
+pub mod Held

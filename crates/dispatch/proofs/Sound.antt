@@ -20,8 +20,6 @@ use Rattle.dispatch.specs.declared.state.State.{State}
 use Rattle.dispatch.specs.declared.state.Stepped.{Stepped}
 use Rattle.dispatch.specs.declared.answer.Answer.{Answer}
 use Rattle.dispatch.specs.declared.answer.Answer.the-variants.{Order, No}
-use Rattle.dispatch.specs.declared.answer.Why.{Why}
-use Rattle.dispatch.specs.declared.answer.Why.the-variants.{BadState, Halted, SameTick, StaleTick, TicksLost, NoJob, PastHigh}
 use Rattle.dispatch.specs.Marks.{isSet, idle}
 use Rattle.dispatch.specs.Scan.{byteOk, unitsOk, bump, choiceIn}
 use Rattle.dispatch.specs.Tick.{tickOf}
@@ -29,7 +27,7 @@ use Rattle.dispatch.specs.Machine.{planOk, stateOk, bookOf, moveOf, open
 use Rattle.dispatch.specs.Numbers.{numberOf}
 use Rattle.dispatch.specs.Runs.{Given, Each, answersBy, stateBy, answersOf, stateOf, refusedOf}
 use Rattle.dispatch.proofs.Facts.{plan-facts, state-facts, state-sound, named-ok, job-below}
-use Rattle.dispatch.proofs.Did.{Reason, is-bad, is-halted, is-same, is-stale, is-lost, has-no-job, is-past, Did, refused, taken, Booked, was-idle, was-job, did}
+use Rattle.dispatch.proofs.Did.{refused-has, Reason, is-bad, is-halted, is-same, is-stale, is-lost, has-no-job, is-past, Did, refused, taken, Booked, was-idle, was-job, did}
 
 -- a test that holds at each number below n
 pub all-each : (f : ℕ → Bool) (n : ℕ) → ((i : ℕ) → i < n → f i ≡ true) → allBelow f n ≡ true
@@ -115,21 +113,12 @@ module _ (lim : Limits) where
   unfolding goOf stateOk
   sound-stays s tick e v = go (stepOf lim s tick e) (did lim s tick e)
     where
-      halts : (w : Why) → stateOk lim (refusedOf w s) ≡ true
-      halts BadState = v
-      halts Halted = v
-      halts SameTick = v
-      halts StaleTick = v
-      halts TicksLost = v
-      halts NoJob = v
-      halts (PastHigh j) = v
-
       booked : (b : State) → Booked lim s tick e b → stateOk lim b ≡ true
       booked b was-idle = v
       booked b (was-job ne) = book-sound s v e ne
 
       go : (x : Stepped) → Did lim s tick e x → stateOk lim (x .state) ≡ true
-      go x (refused {w = w} y) = halts w
+      go x (refused {w = w} y) = refused-has (λ t. stateOk lim t ≡ true) w s v v
       go x (taken a b c) = order-sound _ (move-sound _ (booked _ c) tick)
 
   -- the state of a sound plan, fresh
