@@ -8,3 +8,4 @@ pub mod Sound
 pub mod Slots
 pub mod Shift
 pub mod Held
+pub mod Cases

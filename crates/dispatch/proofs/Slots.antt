@@ -87,7 +87,7 @@ module _ (lim : Limits) where
       let p = plan-stays lim s (g .tick) (g .ended) in
       let m = ordered-moves s (g .tick) (g .ended) (n .0) .1 in
       let i = slots-run r (stepOf lim s (g .tick) (g .ended) .state) (k + 1)
-              (m ∙ ap (λ i. (i + 1) % s .plan .len) h ∙ mod-add-mod k (s .plan .len) 1 ∙ ap (λ (q : Plan). (k + 1) % q .len) (sym p)) (n .1) in
+      (m ∙ ap (λ i. (i + 1) % s .plan .len) h ∙ mod-add-mod k (s .plan .len) 1 ∙ ap (λ (q : Plan). (k + 1) % q .len) (sym p)) (n .1) in
       i ∙ ap (λ (q : Plan). (k + 1 + length r) % q .len) p ∙ ap (λ i. i % s .plan .len) (let z : k + 1 + length r ≡ k + suc (length r) = omega arith in z)
 
   -- after k steps from opening, none of them refused, the slot is that of k - 1 modulo L
