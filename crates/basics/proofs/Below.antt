@@ -51,9 +51,19 @@ module _ (table : ℕ → ℕ) (j : ℕ) where
   unfolding entriesBefore countBelow
   entries-else t p = rw (ne-eqb (table t) j p, entriesBefore, countBelow) (omega arith)
 
-  pub entries-up : (t : ℕ) → entriesBefore table j t ≤ entriesBefore table j (suc t)
+  pub entries-rise : (a b : ℕ) → a ≤ b → entriesBefore table j a ≤ entriesBefore table j b
   unfolding entriesBefore countBelow
-  entries-up t = omega arith
+  entries-rise a zero l = rw (let z : a ≡ 0 = omega arith in z) (omega arith)
+  entries-rise a (suc b) l = go (ℕ-discrete a (suc b)) (λ h. entries-rise a b h)
+    where
+      go : Dec (a ≡ suc b) → (a ≤ b → entriesBefore table j a ≤ entriesBefore table j b) → entriesBefore table j a ≤ entriesBefore table j (suc b)
+      go (yes p) r = rw p (omega arith)
+      go (no p) r = omega (arith, r (omega arith))
+
+-- two tables that name the same job in slot t count it alike
+pub entries-alike : (f g : ℕ → ℕ) (j t : ℕ) → f t ≡ g t → entriesBefore f j (suc t) + entriesBefore g j t ≡ entriesBefore g j (suc t) + entriesBefore f j t
+unfolding entriesBefore countBelow
+entries-alike f g j t p = rw p (omega arith)
 
 pub any-zero : (f : ℕ → Bool) → anyBelow f 0 ≡ false
 unfolding anyBelow

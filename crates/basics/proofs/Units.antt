@@ -17,6 +17,11 @@ unfolding oneMore
 more-on true j u l t = getD-set-same u j (suc (unitsOf u j)) 0 l
 more-on false j u l t = absurd t
 
+-- where none ran, nothing changes
+pub more-off : (j : ℕ) (u : List ℕ) → oneMore false j u ≡ u
+unfolding oneMore
+more-off j u = refl
+
 -- every other job has what it had
 pub more-other : (b : Bool) (j : ℕ) (u : List ℕ) (i : ℕ) → ¬ (i ≡ j) → unitsOf (oneMore b j u) i ≡ unitsOf u i
 unfolding oneMore

@@ -6,3 +6,4 @@ pub mod Units
 pub mod Bytes
 pub mod Put
 pub mod Limits
+pub mod Marks

@@ -1,0 +1,14 @@
+pub mod Step
+pub mod Faults
+pub mod Beside
+pub mod Complete
+pub mod Alike
+pub mod Sound
+pub mod Demand
+pub mod Turn
+pub mod TwoLevels
+pub mod TwoSearch
+pub mod Units
+pub mod UnitsTwo
+pub mod WellFormed
+pub mod Cases

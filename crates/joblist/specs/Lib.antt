@@ -1,0 +1,5 @@
+pub mod Fields
+pub mod Cycle
+pub mod Answer
+pub mod Numbers
+pub mod Accepted

@@ -1,0 +1,16 @@
+pub mod Find
+pub mod Told
+pub mod OneSlot
+pub mod Square
+pub mod Same
+pub mod SameSearch
+pub mod Scan
+pub mod Switches
+pub mod WellFormed
+pub mod Tables
+pub mod Demand
+pub mod Cases
+pub mod Fill
+pub mod Entries
+pub mod Named
+pub mod Judged
