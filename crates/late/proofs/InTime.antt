@@ -17,30 +17,12 @@ use Rattle.late.specs.declared.Late.{Late}
 use Rattle.late.specs.declared.Late.the-variants.{Fine, At}
 use Rattle.late.specs.Late.{orElse, lateAt, takes, unfinished, chosen, lateIn, lateAnswer}
 use Rattle.basics.proofs.Below.{Found, any-found, any-hit}
+use Rattle.late.proofs.General.{turns-each}
 use Rattle.late.proofs.EdfTable.{units-later, owed, free, edf-most}
 
-fine-first : (x y : Late) → orElse x y ≡ Fine → x ≡ Fine
-fine-first Fine y h = refl
-fine-first (At t j) y h = h
-
-fine-rest : (x y : Late) → orElse x y ≡ Fine → y ≡ Fine
-fine-rest Fine y h = h
-fine-rest (At t j) y h = let z : _≡_ {A = ℕ} 0 1 = cc in absurd (omega arith)
-
--- a row of answers is fine where each of them is
-fine-each : (f : ℕ → Late) (k i x : ℕ) → inTurn orElse Fine f k i ≡ Fine → i ≤ x → x < i + k → f x ≡ Fine
-unfolding inTurn
-fine-each f zero i x e h l = absurd (omega arith)
-fine-each f (suc k) i x e h l =
-    go (ℕ-discrete x i) (λ p. fine-each f k (i + 1) x (fine-rest (f i) (inTurn orElse Fine f k (i + 1)) e) (omega arith) (omega arith))
-  where
-    go : Dec (x ≡ i) → (¬ (x ≡ i) → f x ≡ Fine) → f x ≡ Fine
-    go (yes p) r = rw p (fine-first (f i) (inTurn orElse Fine f k (i + 1)) e)
-    go (no p) r = r p
-
-turns-fine : (f : ℕ → Late) (n x : ℕ) → turns orElse Fine f n 0 ≡ Fine → x < n → f x ≡ Fine
-unfolding turns
-turns-fine f n x e h = fine-each f (n - 0) 0 x e (omega arith) (omega arith)
+fine-both : (x y : Late) → orElse x y ≡ Fine → (x ≡ Fine) × (y ≡ Fine)
+fine-both Fine y h = (refl, h)
+fine-both (At t j) y h = let z : _≡_ {A = ℕ} 0 1 = cc in absurd (omega arith)
 
 any-miss : (f : ℕ → Bool) (n i : ℕ) → anyBelow f n ≡ false → i < n → f i ≡ false
 any-miss f n i h l = go (f i) refl
@@ -72,8 +54,8 @@ module _ (s : List ℕ) (v : ℕ) (few : jobs s ≤ 254) (table : List ℕ) (cho
     pub done-by : (j : ℕ) → j < jobs s → deadline s j ≤ slots s → takes s v j ≤ units table (deadline s j) j
     unfolding lateAnswer lateAt unfinished
     done-by j l d =
-        let a = turns-fine (lateIn s v table) (slots s + 1) (deadline s j) fine (omega arith) in
-        let b = turns-fine _ (jobs s) j a l in
+        let a = turns-each orElse Fine fine-both (lateIn s v table) (slots s + 1) (deadline s j) fine (omega arith) in
+        let b = turns-each orElse Fine fine-both _ (jobs s) j a l in
         go (decLt (units table (deadline s j) j) (takes s v j)) b
       where
         go : Dec (units table (deadline s j) j < takes s v j)
