@@ -62,8 +62,8 @@ module _ (lim : Limits) (s : List ℕ) (acc : Accepted lim s) (few : jobs s ≤ 
         record {
           kept = λ j l. moved-keeps s few lim acc j l (filled s v) (slots s) size (omega arith);
           exact = λ j l.
-            moved-keeps s few lim acc j l (filled s v) (slots s) size (omega arith)
-            ∙ edf-exact s v few (filled s v) chosen-at fine-filled j l (deadline-in-frame lim s acc j l);
+              moved-keeps s few lim acc j l (filled s v) (slots s) size (omega arith)
+              ∙ edf-exact s v few (filled s v) chosen-at fine-filled j l (deadline-in-frame lim s acc j l);
           arrived = λ x h e. moved-window lim s acc few v (filled s v) size chosen-at fine-filled x h (ltb-true _ _ e) .0;
           inTime = λ x h e. moved-window lim s acc few v (filled s v) size chosen-at fine-filled x h (ltb-true _ _ e) .1;
         }

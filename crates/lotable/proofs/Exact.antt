@@ -83,8 +83,8 @@ module _ (s : List ℕ) (few : jobs s ≤ 254) where
           highs = g .highs;
           los = length-set (p .lo) t (entry (p .low) k) ∙ g .los;
           total = λ j l.
-            let a = units-set (p .low) k idle j (slots s) i (omega (arith, g .lows)) in
-            omega (arith, g .total j l, a, off j l, filled (p .lo) t (entry (p .low) k) j (omega (arith, g .los)));
+              let a = units-set (p .low) k idle j (slots s) i (omega (arith, g .lows)) in
+              omega (arith, g .total j l, a, off j l, filled (p .lo) t (entry (p .low) k) j (omega (arith, g .los)));
           low-past = past (p .low) k t (g .lows) i (g .low-past) at;
           high-past = stays (p .high) t (g .high-past) high-at;
         }
@@ -96,8 +96,8 @@ module _ (s : List ℕ) (few : jobs s ≤ 254) where
           highs = length-set (p .high) k idle ∙ g .highs;
           los = length-set (p .lo) t (entry (p .high) k) ∙ g .los;
           total = λ j l.
-            let a = units-set (p .high) k idle j (slots s) i (omega (arith, g .highs)) in
-            omega (arith, g .total j l, a, off j l, filled (p .lo) t (entry (p .high) k) j (omega (arith, g .los)));
+              let a = units-set (p .high) k idle j (slots s) i (omega (arith, g .highs)) in
+              omega (arith, g .total j l, a, off j l, filled (p .lo) t (entry (p .high) k) j (omega (arith, g .los)));
           low-past = stays (p .low) t (g .low-past) low-at;
           high-past = past (p .high) k t (g .highs) i (g .high-past) at;
         }
