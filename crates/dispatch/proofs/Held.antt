@@ -29,10 +29,10 @@ words-zero k n h = record { many = length-replicate n 0; fits = λ i. rw (zeros-
 
 bump-fits : (u : ℕ) → u < 2 ^ 16 → bump firstEdition u < 2 ^ 16
 unfolding bump pick
-bump-fits u h = by-test (ltb u 1024) refl
+bump-fits u h = by-test (ltb u (firstEdition .budget)) refl
   where
-    by-test : (b : Bool) → ltb u 1024 ≡ b → pick b (u + 1) u < 2 ^ 16
-    by-test true q = let l : u < 1024 = ltb-true _ _ q in omega arith
+    by-test : (b : Bool) → ltb u (firstEdition .budget) ≡ b → pick b (u + 1) u < 2 ^ 16
+    by-test true q = let l : u < firstEdition .budget = ltb-true _ _ q in omega arith
     by-test false q = h
 
 module _ (s : State) (h : Held s) where
@@ -47,8 +47,8 @@ module _ (s : State) (h : Held s) where
         high = pick-both (λ x. x < 2 ^ 8) _ _ _ (omega arith) (h .high);
         halted = h .halted;
         units = words-set _ _ _ j _ (bump-fits _ (h .units .fits j)) (h .units);
-        done = pick-both (Words 8 64) _ _ _ (words-set _ _ _ j 1 (omega arith) (h .done)) (h .done);
-        cut = pick-both (Words 8 64) _ _ _ (words-set _ _ _ j 1 (omega arith) (h .cut)) (h .cut);
+        done = pick-both (Words 8 (firstEdition .jobs)) _ _ _ (words-set _ _ _ j 1 (omega arith) (h .done)) (h .done);
+        cut = pick-both (Words 8 (firstEdition .jobs)) _ _ _ (words-set _ _ _ j 1 (omega arith) (h .cut)) (h .cut);
       }
 
   move-held : (t : ℕ) → t < 2 ^ 16 → Held (moveOf firstEdition s t)
@@ -77,9 +77,9 @@ module _ (s : State) (h : Held s) where
             ordered = h .ordered;
             high = omega arith;
             halted = h .halted;
-            units = words-zero 16 64 (omega arith);
-            done = words-zero 8 64 (omega arith);
-            cut = words-zero 8 64 (omega arith);
+            units = words-zero 16 (firstEdition .jobs) (omega arith);
+            done = words-zero 8 (firstEdition .jobs) (omega arith);
+            cut = words-zero 8 (firstEdition .jobs) (omega arith);
           }
 
   order-held : Held (orderOf s .state)

@@ -42,20 +42,20 @@ use Rattle.dispatch.proofs.Entries.{entries-same, entries-at}
 -- what the code reads is what the definition says
 pub fields-are : (s lo hi : List ℕ) (l n m : ℕ) (a d c h v f t x y : List ℕ)
     → l ≡ slots s → n ≡ jobs s → m ≡ edges s
-    → a ≡ entries 64 (λ j. u16At s (jobAt j + 0)) n → d ≡ entries 64 (deadline s) n → c ≡ entries 64 (ordinary s) n → h ≡ entries 64 (high s) n
-    → v ≡ entries 64 (level s) n → f ≡ entries 256 (λ e. getD s (edgeAt n e + 0) 0) m → t ≡ entries 256 (edgeTo s n) m
-    → x ≡ entries 1024 (λ i. getD lo i 0) l → y ≡ entries 1024 (λ i. getD hi i 0) l
+    → a ≡ entries (firstEdition .jobs) (λ j. u16At s (jobAt j + 0)) n → d ≡ entries (firstEdition .jobs) (deadline s) n → c ≡ entries (firstEdition .jobs) (ordinary s) n → h ≡ entries (firstEdition .jobs) (high s) n
+    → v ≡ entries (firstEdition .jobs) (level s) n → f ≡ entries (firstEdition .edges) (λ e. getD s (edgeAt n e + 0) 0) m → t ≡ entries (firstEdition .edges) (edgeTo s n) m
+    → x ≡ entries (firstEdition .slots) (λ i. getD lo i 0) l → y ≡ entries (firstEdition .slots) (λ i. getD hi i 0) l
     → _≡_ {A = Plan} record { len = l; n = n; m = m; arrival = a; deadline = d; clo = c; chi = h; level = v; from = f; to = t; lo = x; hi = y }
     (fieldsOf firstEdition s lo hi)
 unfolding fieldsOf
 fields-are s lo hi l n m a d c h v f t x y ql qn qm qa qd qc qh qv qf qt qx qy =
-    let ra : a ≡ entries 64 (arrival s) n = qa ∙ entries-same 64 _ _ n (λ j b. ap (u16At s) (add-zero _)) in
-    let rf : f ≡ entries 256 (edgeFrom s n) m = qf ∙ entries-same 256 _ _ m (λ e b. ap (λ i. getD s i 0) (add-zero _)) in
+    let ra : a ≡ entries (firstEdition .jobs) (arrival s) n = qa ∙ entries-same (firstEdition .jobs) _ _ n (λ j b. ap (u16At s) (add-zero _)) in
+    let rf : f ≡ entries (firstEdition .edges) (edgeFrom s n) m = qf ∙ entries-same (firstEdition .edges) _ _ m (λ e b. ap (λ i. getD s i 0) (add-zero _)) in
     rw (ra, qd, qc, qh, qv, rf, qt, qx, qy, ql, qn, qm)
 
 -- the room that reading them needs
 pub fields-fit : (s : List ℕ) (w : Shape) → readOf firstEdition s ≡ IsPlan w
-    → (jobs (listOf s) ≤ 64) × (edges (listOf s) ≤ 256) × (slots (listOf s) ≤ 1024) × (listBytes (jobs (listOf s)) (edges (listOf s)) ≤ length (listOf s))
+    → (jobs (listOf s) ≤ firstEdition .jobs) × (edges (listOf s) ≤ firstEdition .edges) × (slots (listOf s) ≤ firstEdition .slots) × (listBytes (jobs (listOf s)) (edges (listOf s)) ≤ length (listOf s))
     × (slots (listOf s) ≤ length (lowOf s)) × (slots (listOf s) ≤ length (highOf s))
 fields-fit s w h =
     let i = pair-yes _ _ _ _ (read-yes firstEdition s w h .checked) in

@@ -6,7 +6,7 @@ use mathlib.Core.Logic.{_⊎_}
 use mathlib.Core.Bool.{Bool}
 use mathlib.Core.List.{List, [], _∷_}
 use lib.ListN.{length, getD}
-use Rattle.basics.specs.Limits.{Limits}
+use Rattle.basics.specs.Limits.{Limits, firstEdition}
 use Rattle.dispatch.specs.declared.plan.Plan.{Plan}
 use Rattle.dispatch.specs.declared.state.State.{State}
 use Rattle.dispatch.specs.declared.state.Stepped.{Stepped}
@@ -82,15 +82,15 @@ pub record HeldPlan (p : Plan) : Type 0 where
   pub len : p .len < 2 ^ 16
   pub n : p .n < 2 ^ 16
   pub m : p .m < 2 ^ 16
-  pub arrival : Words 16 64 (p .arrival)
-  pub deadline : Words 16 64 (p .deadline)
-  pub clo : Words 16 64 (p .clo)
-  pub chi : Words 16 64 (p .chi)
-  pub level : Words 8 64 (p .level)
-  pub from : Words 8 256 (p .from)
-  pub to : Words 8 256 (p .to)
-  pub lo : Words 8 1024 (p .lo)
-  pub hi : Words 8 1024 (p .hi)
+  pub arrival : Words 16 (firstEdition .jobs) (p .arrival)
+  pub deadline : Words 16 (firstEdition .jobs) (p .deadline)
+  pub clo : Words 16 (firstEdition .jobs) (p .clo)
+  pub chi : Words 16 (firstEdition .jobs) (p .chi)
+  pub level : Words 8 (firstEdition .jobs) (p .level)
+  pub from : Words 8 (firstEdition .edges) (p .from)
+  pub to : Words 8 (firstEdition .edges) (p .to)
+  pub lo : Words 8 (firstEdition .slots) (p .lo)
+  pub hi : Words 8 (firstEdition .slots) (p .hi)
 
 pub record Held (s : State) : Type 0 where
   pub plan : HeldPlan (s .plan)
@@ -99,6 +99,6 @@ pub record Held (s : State) : Type 0 where
   pub ordered : s .ordered < 2 ^ 8
   pub high : s .high < 2 ^ 8
   pub halted : s .halted < 2 ^ 8
-  pub units : Words 16 64 (s .units)
-  pub done : Words 8 64 (s .done)
-  pub cut : Words 8 64 (s .cut)
+  pub units : Words 16 (firstEdition .jobs) (s .units)
+  pub done : Words 8 (firstEdition .jobs) (s .done)
+  pub cut : Words 8 (firstEdition .jobs) (s .cut)

@@ -49,7 +49,7 @@ pub fn tables_ok<'a>(
     len: usize,
     n: usize,
 ) -> bool
-    requires { ⌜ len ≤ 1024 ⌝ }
+    requires { ⌜ len ≤ firstEdition .slots ⌝ }
     ensures { λ r. ⌜ r ≡ tablesOk (now (lo .entry)) (now (hi .entry)) len n ⌝ }
 {
     let mut t: usize = 0;
@@ -72,7 +72,7 @@ pub fn edges_ok<'a>(
     m: usize,
     n: usize,
 ) -> bool
-    requires { ⌜ m ≤ 256 ⌝ }
+    requires { ⌜ m ≤ firstEdition .edges ⌝ }
     ensures { λ r. ⌜ r ≡ edgesOk (now (from .entry)) (now (to .entry)) m n ⌝ }
 {
     let mut e: usize = 0;
@@ -95,7 +95,7 @@ pub fn jobs_ok<'a>(
     chi: &'a [u16; MOST_JOBS],
     n: usize,
 ) -> bool
-    requires { ⌜ n ≤ 64 ⌝ }
+    requires { ⌜ n ≤ firstEdition .jobs ⌝ }
     ensures { λ r. ⌜ r ≡ jobsOk firstEdition (now (level .entry)) (now (clo .entry)) (now (chi .entry)) n ⌝ }
 {
     let mut j: usize = 0;
@@ -116,7 +116,7 @@ pub fn jobs_ok<'a>(
 
 // The unit count of each job.
 pub fn units_ok(units: &[u16; MOST_JOBS], n: usize) -> bool
-    requires { ⌜ n ≤ 64 ⌝ }
+    requires { ⌜ n ≤ firstEdition .jobs ⌝ }
     ensures { λ r. ⌜ r ≡ unitsOk firstEdition (now (units .entry)) n ⌝ }
 {
     let mut j: usize = 0;
@@ -137,8 +137,8 @@ pub fn preds_done<'a>(
     done: &'a [u8; MOST_JOBS],
     j: u8,
 ) -> bool
-    requires { ⌜ m ≤ 256 ⌝ }
-    requires { ⌜ ((e : ℕ) → e < m → getD (now from) e 0 < 64) ⌝ }
+    requires { ⌜ m ≤ firstEdition .edges ⌝ }
+    requires { ⌜ ((e : ℕ) → e < m → getD (now from) e 0 < firstEdition .jobs) ⌝ }
     ensures { λ r. ⌜ r ≡ predsDone (now (from .entry)) (now (to .entry)) m (now (done .entry)) j ⌝ }
 {
     let mut e: usize = 0;
@@ -156,7 +156,7 @@ pub fn preds_done<'a>(
 
 // The job that the mode's table names at the slot.
 pub fn named<'a>(lo: &'a [u8; MOST_SLOTS], hi: &'a [u8; MOST_SLOTS], high: u8, slot: usize) -> u8
-    requires { ⌜ slot < 1024 ⌝ }
+    requires { ⌜ slot < firstEdition .slots ⌝ }
     ensures { λ r. ⌜ r ≡ namedIn (now (lo .entry)) (now (hi .entry)) high slot ⌝ }
 {
     if high != 0 {
@@ -177,14 +177,14 @@ pub fn bumped(u: u16) -> u16
 
 // One entry of a lent table.
 pub fn count_at(counts: &[u16; MOST_JOBS], j: usize) -> u16
-    requires { ⌜ j < 64 ⌝ }
+    requires { ⌜ j < firstEdition .jobs ⌝ }
     ensures { λ r. ⌜ r ≡ getD (now (counts .entry)) j 0 ⌝ }
 {
     counts[j]
 }
 
 pub fn byte_at(bytes: &[u8; MOST_JOBS], j: usize) -> u8
-    requires { ⌜ j < 64 ⌝ }
+    requires { ⌜ j < firstEdition .jobs ⌝ }
     ensures { λ r. ⌜ r ≡ getD (now (bytes .entry)) j 0 ⌝ }
 {
     bytes[j]
@@ -198,7 +198,7 @@ pub fn past_high<'a>(
     j: usize,
     ended: bool,
 ) -> bool
-    requires { ⌜ j < 64 ⌝ }
+    requires { ⌜ j < firstEdition .jobs ⌝ }
     ensures { λ r. ⌜ r ≡ pastHigh firstEdition (now (level .entry)) (now (chi .entry)) (now (units .entry)) j ended ⌝ }
 {
     if ended {
@@ -218,7 +218,7 @@ fn late_low<'a>(
     slot: u16,
     j: usize,
 ) -> bool
-    requires { ⌜ j < 64 ⌝ }
+    requires { ⌜ j < firstEdition .jobs ⌝ }
     ensures { λ r. ⌜ r ≡ lateLow (now (deadline .entry)) (now (level .entry)) high slot j ⌝ }
 {
     if high == 0 {
@@ -244,9 +244,9 @@ fn may_run<'a>(
     slot: u16,
     x: u8,
 ) -> bool
-    requires { ⌜ x < 64 ⌝ }
-    requires { ⌜ m ≤ 256 ⌝ }
-    requires { ⌜ ((e : ℕ) → e < m → getD (now from) e 0 < 64) ⌝ }
+    requires { ⌜ x < firstEdition .jobs ⌝ }
+    requires { ⌜ m ≤ firstEdition .edges ⌝ }
+    requires { ⌜ ((e : ℕ) → e < m → getD (now from) e 0 < firstEdition .jobs) ⌝ }
     ensures { λ r. ⌜ r ≡ mayRun (now (done .entry)) (now (cut .entry)) (now (arrival .entry)) (now (deadline .entry)) (now (level .entry)) (now (from .entry)) (now (to .entry)) m high slot x ⌝ }
 {
     let j = x as usize;
@@ -279,9 +279,9 @@ pub fn choice<'a>(
     slot: u16,
     named: u8,
 ) -> u8
-    requires { ⌜ ((named ≡ idle → ⊥) → named < 64) ⌝ }
-    requires { ⌜ m ≤ 256 ⌝ }
-    requires { ⌜ ((e : ℕ) → e < m → getD (now from) e 0 < 64) ⌝ }
+    requires { ⌜ ((named ≡ idle → ⊥) → named < firstEdition .jobs) ⌝ }
+    requires { ⌜ m ≤ firstEdition .edges ⌝ }
+    requires { ⌜ ((e : ℕ) → e < m → getD (now from) e 0 < firstEdition .jobs) ⌝ }
     ensures { λ r. ⌜ r ≡ choiceIn (now (done .entry)) (now (cut .entry)) (now (arrival .entry)) (now (deadline .entry)) (now (level .entry)) (now (from .entry)) (now (to .entry)) m high slot named ⌝ }
 {
     if named == Plan::IDLE {

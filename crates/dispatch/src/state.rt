@@ -138,7 +138,7 @@ impl State {
 
     // The last slot is booked to the job ordered last.
     fn book(mut self, ended: bool) -> Self
-        requires { ⌜ self .ordered < 64 ⌝ }
+        requires { ⌜ self .ordered < firstEdition .jobs ⌝ }
         ensures { λ r. ⌜ r ≡ bookOf firstEdition self (self .ordered) ended ⌝ }
     {
         let j = self.ordered as usize;
@@ -163,7 +163,7 @@ impl State {
 
     // The tick is taken: the next slot, or after slot L-1 the next frame.
     fn move_on(mut self, tick: u16) -> Self
-        requires { ⌜ self .slot < 1024 ⌝ }
+        requires { ⌜ self .slot < firstEdition .slots ⌝ }
         ensures { λ r. ⌜ r ≡ moveOf firstEdition self tick ⌝ }
     {
         let next = self.slot + 1;

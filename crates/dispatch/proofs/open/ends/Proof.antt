@@ -4,6 +4,7 @@ use Prim.Native.Nat.{_+_, _-_, _≤_}
 use mathlib.Core.Path.{_≡_, refl}
 use native.Mathlib.Omega.{arith}
 use lib.ListN.{getD}
+use Rattle.basics.specs.Limits.{firstEdition}
 use Rattle.joblist.specs.Fields.{edgeAt}
 use Rattle.dispatch.specs.Open.{entries}
 use Rattle.dispatch.proofs.Entries.{entries-none, entries-turn, entries-done}
@@ -11,7 +12,7 @@ use Rattle.dispatch.proofs.open.ends.Statement.{statement}
 use Rattle.dispatch.proofs.open.ends.Tie as tie
 
 abbrev Inv-loop : tie.InvT-loop
-Inv-loop list at n m out₀ e₀ out e = (e ≤ m) × (out ≡ entries 256 (λ i. getD list (edgeAt n i + at) 0) e)
+Inv-loop list at n m out₀ e₀ out e = (e ≤ m) × (out ≡ entries (firstEdition .edges) (λ i. getD list (edgeAt n i + at) 0) e)
 
 abbrev μ-loop : tie.MeasureT-loop
 μ-loop list at n m out₀ e₀ out e = m - e

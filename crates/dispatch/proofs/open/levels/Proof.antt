@@ -3,6 +3,7 @@
 use Prim.Native.Nat.{_-_, _≤_}
 use mathlib.Core.Path.{_≡_, refl}
 use native.Mathlib.Omega.{arith}
+use Rattle.basics.specs.Limits.{firstEdition}
 use Rattle.joblist.specs.Fields.{level}
 use Rattle.dispatch.specs.Open.{entries}
 use Rattle.dispatch.proofs.Entries.{entries-none, entries-turn, entries-done}
@@ -10,7 +11,7 @@ use Rattle.dispatch.proofs.open.levels.Statement.{statement}
 use Rattle.dispatch.proofs.open.levels.Tie as tie
 
 abbrev Inv-loop : tie.InvT-loop
-Inv-loop list n out₀ j₀ out j = (j ≤ n) × (out ≡ entries 64 (level list) j)
+Inv-loop list n out₀ j₀ out j = (j ≤ n) × (out ≡ entries (firstEdition .jobs) (level list) j)
 
 abbrev μ-loop : tie.MeasureT-loop
 μ-loop list n out₀ j₀ out j = n - j

@@ -4,13 +4,14 @@ use Prim.Native.Nat.{_-_, _≤_}
 use mathlib.Core.Path.{_≡_, refl}
 use native.Mathlib.Omega.{arith}
 use lib.ListN.{getD}
+use Rattle.basics.specs.Limits.{firstEdition}
 use Rattle.dispatch.specs.Open.{entries}
 use Rattle.dispatch.proofs.Entries.{entries-none, entries-turn, entries-done}
 use Rattle.dispatch.proofs.open.table.Statement.{statement}
 use Rattle.dispatch.proofs.open.table.Tie as tie
 
 abbrev Inv-loop : tie.InvT-loop
-Inv-loop entry n out₀ t₀ out t = (t ≤ n) × (out ≡ entries 1024 (λ i. getD entry i 0) t)
+Inv-loop entry n out₀ t₀ out t = (t ≤ n) × (out ≡ entries (firstEdition .slots) (λ i. getD entry i 0) t)
 
 abbrev μ-loop : tie.MeasureT-loop
 μ-loop entry n out₀ t₀ out t = n - t

@@ -5,6 +5,7 @@ use mathlib.Core.Path.{_≡_}
 use native.Mathlib.Omega.{arith}
 use borrow.Author.Needs.{needs}
 use Rattle.basics.specs.Bytes.{u16At}
+use Rattle.basics.specs.Limits.{firstEdition}
 use Rattle.joblist.specs.Fields.{jobAt}
 use Rattle.dispatch.specs.Open.{entries}
 use Rattle.dispatch.proofs.Entries.{entries-none, entries-turn, entries-done}
@@ -12,7 +13,7 @@ use Rattle.dispatch.proofs.open.words.Statement.{statement}
 use Rattle.dispatch.proofs.open.words.Tie as tie
 
 abbrev Inv-loop : tie.InvT-loop
-Inv-loop list at n out₀ j₀ out j = (j ≤ n) × (out ≡ entries 64 (λ i. u16At list (jobAt i + at)) j)
+Inv-loop list at n out₀ j₀ out j = (j ≤ n) × (out ≡ entries (firstEdition .jobs) (λ i. u16At list (jobAt i + at)) j)
 
 abbrev μ-loop : tie.MeasureT-loop
 μ-loop list at n out₀ j₀ out j = n - j
