@@ -1,11 +1,11 @@
 -- Laws of the chain of refusals: what an answer of Good says of its parts.
 -- Assumes nothing.
-use Prim.Native.Nat.{ℕ, zero, suc, _+_, _≤_, _<_}
-use mathlib.Core.Path.{_≡_, refl, sym, _∙_}
+use Prim.Native.Nat.{ℕ, zero, suc, _+_, _-_, _≤_, _<_}
+use mathlib.Core.Path.{_≡_, refl, sym, ap₂, _∙_}
 use mathlib.Core.Bool.{Bool, true, false}
 use native.Mathlib.Numerals.{add-one}
 use native.Mathlib.Omega.{arith}
-use Rattle.basics.specs.Turns.{turns}
+use Rattle.basics.specs.Turns.{turns, inTurn}
 use Rattle.basics.proofs.Turns.{turns-step, turns-end}
 use Rattle.joblist.specs.Answer.{_⨾_, need, each}
 use Rattle.joblist.specs.declared.ListAnswer.{ListAnswer}
@@ -35,6 +35,15 @@ each-good f n h k less = both-good _ _ (sym (turns-step _⨾_ Good f n k less) �
     from zero l = h
     from (suc i) l =
         rw add-one at (both-good (f i) _ (sym (turns-step _⨾_ Good f n i l) ∙ from i (omega arith)) .1)
+
+-- answers that agree in each turn agree
+pub each-same : (f g : ℕ → ListAnswer) (n : ℕ) → ((k : ℕ) → k < n → f k ≡ g k) → each n f ≡ each n g
+unfolding turns inTurn
+each-same f g n same = go (n - 0) 0 (λ k a b. same k (omega arith))
+  where
+    go : (k i : ℕ) → ((x : ℕ) → i ≤ x → x < i + k → f x ≡ g x) → inTurn _⨾_ Good f k i ≡ inTurn _⨾_ Good g k i
+    go zero i h = refl
+    go (suc k) i h = ap₂ _⨾_ (h i (omega arith) (omega arith)) (go k (i + 1) (λ x a b. h x (omega arith) (omega arith)))
 
 -- a loop that asks in turn: one turn more, the turn that refuses, and the end
 module _ (f : ℕ → ListAnswer) (n i : ℕ) {whole : ListAnswer} (sofar : whole ≡ turns _⨾_ Good f n i) where

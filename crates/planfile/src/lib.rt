@@ -5,7 +5,7 @@ ghost use lib.ListN.{length, take, drop};
 ghost use Rattle.basics.specs.Bytes.{u32At};
 ghost use Rattle.basics.specs.Limits.{firstEdition};
 ghost use Rattle.basics.specs.Put.{put};
-ghost use Rattle.planfile.specs.Plan.{trailer, planOf, leastBytes, lowAt, listOf, lowOf, highOf};
+ghost use Rattle.planfile.specs.Plan.{trailerBytes, trailer, planOf, leastBytes, lowAt, listOf, lowOf, highOf};
 ghost use Rattle.planfile.specs.Answer.{shapeOf, partsAnswer, readOf, writeOf, outAfter};
 ghost use Rattle.planfile.specs.Numbers.{readWhyNumber, readWhyPlace, readNumber, readPlace, writeWhyNumber, writeWhyPlace, wroteNumber, wrotePlace};
 use joblist::EDGE_BYTES;
@@ -167,7 +167,7 @@ fn trailer_of(back: usize) -> [u8; TRAILER_BYTES]
 
 // Inner: the plan of a list and two tables that were checked, at the front of a buffer that has room; its length. Who builds a pair writes it so too.
 pub fn put_plan(list: &[u8], lo: &[u8], hi: &[u8], out: &mut [u8]) -> usize
-    requires { ⌜ length (planOf (now list) (now lo) (now hi)) ≤ length (now out) ⌝ }
+    requires { ⌜ length (now list) + length (now lo) + length (now hi) + trailerBytes ≤ length (now out) ⌝ }
     ensures { λ r. ⌜ (r ≡ length (planOf (now (list .entry)) (now (lo .entry)) (now (hi .entry))))
         × (now (out .exit) ≡ put (now (out .entry)) 0 (planOf (now (list .entry)) (now (lo .entry)) (now (hi .entry)))) ⌝ }
 {

@@ -4,14 +4,15 @@ use Prim.Native.Nat.{ℕ, _+_, _*_, _<_, _≤_}
 use mathlib.Core.Path.{_≡_}
 use mathlib.Core.List.{List, [], _∷_}
 use mathlib.Core.Option.{Option, some, none}
-use mathlib.Core.Bool.{Bool, false, cond}
+use mathlib.Core.Bool.{Bool, false, cond, _&&_}
 use lib.ListN.{getD}
-use lib.Dec.{eqb}
+use lib.Dec.{eqb, ltb}
 use Rattle.basics.specs.Limits.{firstEdition}
 use Rattle.basics.specs.Marks.{noSwitch}
-use Rattle.joblist.specs.Fields.{ordinary, high}
+use Rattle.joblist.specs.Fields.{ordinary, high, level}
 use Rattle.frame.specs.Jobs.{Frame}
 use Rattle.frame.specs.Search.{Finding, nothing, found}
+use Rattle.verdict.specs.Count.{entriesIn}
 use Rattle.verdict.specs.FrameOf.{frameWith}
 use Rattle.verdict.specs.Answer.{switchOf, faultOf}
 use Rattle.verdict.specs.declared.Fault.the-variants.{Late, Early, Before}
@@ -55,7 +56,16 @@ edgeAt b p q = getD b (firstEdition .jobs * q + p) false
 abbrev pub square : List ℕ → ℕ → List Bool → Frame
 square s n b = frameWith s n 0 [] [] (edgeAt b)
 
+-- slot t, whose entry in table LO is j, has a switch: a high job with CHI > CLO at its CLO-th unit
+abbrev pub switchesAt : List ℕ → ℕ → List ℕ → ℕ → ℕ → Bool
+switchesAt s n lo t j =
+    ltb j n && (eqb (level s j) 1 && (ltb (ordinary s j) (high s j) && eqb (entriesIn lo j t + 1) (ordinary s j)))
+
+-- no high budget is below the ordinary one
+abbrev pub Rising : List ℕ → ℕ → Type 0
+Rising s n = (j : ℕ) → j < n → ordinary s j ≤ high s j
+
 -- a scan that never switches: budgets rise, and in LO each job needs its ordinary budget
 pub record Steady (s : List ℕ) (n mode : ℕ) (need : List ℕ) : Type 0 where
-  pub rising : (j : ℕ) → j < n → ordinary s j ≤ high s j
+  pub rising : Rising s n
   pub ordered : mode ≡ 0 → (j : ℕ) → j < n → getD need j 0 ≡ ordinary s j

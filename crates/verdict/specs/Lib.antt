@@ -1,3 +1,4 @@
+pub mod Count
 pub mod FrameOf
 pub mod Answer
 pub mod Numbers

@@ -1,0 +1,12 @@
+pub mod Find
+pub mod Told
+pub mod Slot
+pub mod Square
+pub mod Same
+pub mod SameSearch
+pub mod Scan
+pub mod Switches
+pub mod WellFormed
+pub mod Tables
+pub mod Demand
+pub mod Cases

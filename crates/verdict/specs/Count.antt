@@ -1,0 +1,15 @@
+-- Counting: how many entries of a job stand in a table before a slot. The one home of counting.
+-- Assumes nothing.
+use Prim.Native.Nat.{ℕ, min}
+use mathlib.Core.List.{List}
+use lib.ListN.{length, getD}
+use Rattle.basics.specs.Below.{entriesBefore}
+use Rattle.basics.specs.Marks.{idle}
+
+-- what a table holds in a slot; past its end, idle
+abbrev pub entryAt : List ℕ → ℕ → ℕ
+entryAt table t = getD table t idle
+
+-- the entries that equal j in the slots before t; a table ends where its bytes end, so that none stands past them
+unfoldable pub entriesIn : List ℕ → ℕ → ℕ → ℕ
+entriesIn table j t = entriesBefore (entryAt table) j (min t (length table))
