@@ -3,7 +3,7 @@
 use Prim.Native.Nat.{ℕ, zero, suc, _+_, _*_, _-_, _≤_, _<_, max}
 use mathlib.Core.Path.{_≡_, refl, sym, ap, ap₂, _∙_}
 use mathlib.Core.List.{List, _++_}
-use mathlib.Core.Bool.{not, _&&_}
+use mathlib.Core.Bool.{Bool, true, false, not, _&&_}
 use native.Mathlib.Omega.{arith}
 use native.Mathlib.Decide.{ℕ-discrete}
 use borrow.Author.Tests.{le-leb, eq-eqb, ne-eqb}
@@ -14,12 +14,13 @@ use Rattle.basics.specs.Limits.{Limits}
 use Rattle.basics.proofs.Below.{any-same}
 use Rattle.joblist.specs.Fields.{headBytes, listBytes, jobs, edges, slots, headZero, high, level, edgeFrom, edgeTo}
 use Rattle.joblist.specs.Cycle.{walk, cyclic}
-use Rattle.joblist.specs.Answer.{_⨾_, need, countsAnswer, zeroAnswer, jobAnswer, pairAnswer, edgeAnswer, rising, largest, bodyAnswer, frontAnswer, listAnswer}
+use Rattle.joblist.specs.Answer.{_⨾_, need, countsAnswer, zeroAnswer, jobAnswer, goodPair, edgeAnswer, rising, largest, bodyAnswer, frontAnswer, listAnswer}
 use Rattle.joblist.specs.declared.ListAnswer.{ListAnswer}
 use Rattle.joblist.specs.declared.ListAnswer.the-variants.{Good, No}
-use Rattle.joblist.specs.declared.Why.the-variants.{LowToHigh, Slots, Cycle}
+use Rattle.joblist.specs.declared.Why.the-variants.{Pair, LowToHigh, Slots, Cycle}
 use Rattle.joblist.proofs.Chain.{each-same}
-use Rattle.joblist.proofs.Rows.{counts-good, pair-good}
+use Rattle.joblist.proofs.Rows.{counts-good}
+use Rattle.joblist.proofs.Tested.{pair-so}
 
 -- s and t have the same first bytes, as many as n jobs and m edges need
 module _ (s t : List ℕ) (n m : ℕ) (same : (i : ℕ) → i < listBytes n m → getD s i 0 ≡ getD t i 0) where
@@ -59,13 +60,13 @@ module _ (s t : List ℕ) (n m : ℕ) (same : (i : ℕ) → i < listBytes n m �
 
   edge-same : (e : ℕ) → e < m → edgeAnswer s n e ≡ edgeAnswer t n e
   edge-same e h =
-      rw (from-same e h, to-same e h, rising-same e h) (go (pairAnswer e n (edgeFrom t n e) (edgeTo t n e) (rising t n e)) refl)
+      rw (from-same e h, to-same e h, rising-same e h) (go (goodPair n (edgeFrom t n e) (edgeTo t n e) (rising t n e)) refl)
     where
-      go : (a : ListAnswer) → pairAnswer e n (edgeFrom t n e) (edgeTo t n e) (rising t n e) ≡ a
-          → a ⨾ need (leb (level s (edgeTo t n e)) (level s (edgeFrom t n e))) (LowToHigh e) ≡ a ⨾ need (leb (level t (edgeTo t n e)) (level t (edgeFrom t n e))) (LowToHigh e)
-      go (No w) p = refl
-      go Good p =
-          let g = pair-good _ _ _ _ _ p in
+      go : (b : Bool) → goodPair n (edgeFrom t n e) (edgeTo t n e) (rising t n e) ≡ b
+          → need b (Pair e) ⨾ need (leb (level s (edgeTo t n e)) (level s (edgeFrom t n e))) (LowToHigh e) ≡ need b (Pair e) ⨾ need (leb (level t (edgeTo t n e)) (level t (edgeFrom t n e))) (LowToHigh e)
+      go false p = refl
+      go true p =
+          let g = pair-so n _ _ _ p in
           rw (level-same (edgeTo t n e) (g .1), level-same (edgeFrom t n e) (g .0))
 
   walk-same : (k j : ℕ) → walk s n m k j ≡ walk t n m k j

@@ -1,4 +1,5 @@
 pub mod Chain
+pub mod Tested
 pub mod Rows
 pub mod Steps
 pub mod Edges

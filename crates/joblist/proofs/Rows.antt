@@ -1,19 +1,18 @@
 -- What each row of the chain says where its answer is Good.
 -- Assumes nothing.
-use Prim.Native.Nat.{ℕ, _≤_, _<_}
+use Prim.Native.Nat.{ℕ, _≤_}
 use mathlib.Core.Path.{_≡_}
 use mathlib.Core.List.{List}
-use mathlib.Core.Bool.{Bool, true, not, _&&_, _||_}
-use borrow.Author.Tests.{ltb-true, leb-true, eqb-true, eqb-false, not-true}
-use lib.Dec.{leb, ltb, eqb}
+use native.Mathlib.Omega.{arith}
+use borrow.Author.Tests.{leb-true, eqb-true}
 use Rattle.basics.specs.Limits.{Limits}
-use Rattle.basics.proofs.Tests.{and-left, and-right}
-use Rattle.joblist.specs.Fields.{arrival, deadline, ordinary, high, level}
+use Rattle.joblist.specs.Fields.{high}
 use Rattle.joblist.specs.Cycle.{Named}
-use Rattle.joblist.specs.Answer.{each, countsAnswer, fieldsAnswer, jobAnswer, pairAnswer, edgeAnswer, rising}
+use Rattle.joblist.specs.Answer.{each, countsAnswer, fieldsAnswer, jobAnswer, edgeAnswer, rising}
 use Rattle.joblist.specs.Accepted.{Job, GoodEdge}
 use Rattle.joblist.specs.declared.ListAnswer.the-variants.{Good}
-use Rattle.joblist.proofs.Chain.{both-good, need-good, row-good, each-good}
+use Rattle.joblist.proofs.Chain.{need-good, row-good, each-good}
+use Rattle.joblist.proofs.Tested.{within-so, times-so, budgets-so, pair-so}
 
 -- the counts
 pub record Counts (lim : Limits) (len whole n m l z : ℕ) : Type 0 where
@@ -32,12 +31,14 @@ counts-good lim len whole n m l z h =
     let b = row-good _ _ _ (a .1) in
     let c = row-good _ _ _ (b .1) in
     let d = row-good _ _ _ (c .1) in
+    let i = within-so _ _ (a .0) in
+    let k = within-so _ _ (c .0) in
     record {
-      oneJob = leb-true _ _ (and-left _ _ (a .0));
-      mostJobs = leb-true _ _ (and-right (leb 1 n) _ (a .0));
+      oneJob = i .0;
+      mostJobs = i .1;
       mostEdges = leb-true _ _ (b .0);
-      oneSlot = leb-true _ _ (and-left _ _ (c .0));
-      mostSlots = leb-true _ _ (and-right (leb 1 l) _ (c .0));
+      oneSlot = k .0;
+      mostSlots = k .1;
       given = eqb-true _ _ (d .0);
       blank = eqb-true _ _ (need-good _ _ (d .1));
     }
@@ -48,32 +49,23 @@ unfolding fieldsAnswer
 job-good lim s j h =
     let a = row-good _ _ _ h in
     let b = row-good _ _ _ (a .1) in
-    let c = need-good _ _ (b .1) in
-    let d = and-left _ (eqb (level s j) 1 || eqb (ordinary s j) (high s j)) c in
-    let e = and-left _ (leb (high s j) (lim .budget)) d in
+    let t = times-so lim _ _ (b .0) in
+    let k = budgets-so lim _ _ _ (need-good _ _ (b .1)) in
     record {
       known = leb-true _ _ (a .0);
-      window = ltb-true _ _ (and-left _ _ (b .0));
-      end = leb-true _ _ (and-right (ltb (arrival s j) (deadline s j)) _ (b .0));
-      one = leb-true _ _ (and-left _ _ e);
-      rising = leb-true _ _ (and-right (leb 1 (ordinary s j)) _ e);
-      most = leb-true _ _ (and-right (leb 1 (ordinary s j) && leb (ordinary s j) (high s j)) _ d);
-      equal = λ z. eqb-true _ _ (rw z at (and-right (leb 1 (ordinary s j) && leb (ordinary s j) (high s j) && leb (high s j) (lim .budget)) (eqb (level s j) 1 || eqb (ordinary s j) (high s j)) c));
+      window = t .0;
+      end = t .1;
+      one = k .0;
+      rising = k .1;
+      most = k .2;
+      equal = λ z. k .3 (λ y. omega arith);
     }
 
 -- an edge
-pub pair-good : (e n p q : ℕ) (o : Bool) → pairAnswer e n p q o ≡ Good → (p < n) × (q < n) × ¬ (p ≡ q) × (o ≡ true)
-unfolding pairAnswer
-pair-good e n p q o h =
-    let a = need-good _ _ h in
-    let b = and-left _ o a in
-    let c = and-left _ (not (eqb p q)) b in
-    (ltb-true _ _ (and-left _ _ c), ltb-true _ _ (and-right (ltb p n) _ c), eqb-false _ _ (not-true _ (and-right (ltb p n && ltb q n) _ b)), and-right (ltb p n && ltb q n && not (eqb p q)) _ a)
-
 pub edge-good : (s : List ℕ) (n e : ℕ) → edgeAnswer s n e ≡ Good → GoodEdge s n e
 edge-good s n e h =
-    let a = both-good _ _ h in
-    let b = pair-good _ _ _ _ _ (a .0) in
+    let a = row-good _ _ _ h in
+    let b = pair-so n _ _ _ (a .0) in
     record { from = b .0; to = b .1; other = b .2; later = b .3; down = leb-true _ _ (need-good _ _ (a .1)) }
 
 -- of a list whose edges are Good, each edge goes from a job to a job

@@ -28,12 +28,16 @@ need b w = cond b Good (No w)
 abbrev pub each : ℕ → (ℕ → ListAnswer) → ListAnswer
 each n f = turns _⨾_ Good f n 0
 
+-- x is from 1 to most
+unfoldable pub within : ℕ → ℕ → Bool
+within most x = leb 1 x && leb x most
+
 -- 1, 2, 3, 43, 44: the counts n, m and l and the zero z, of len bytes where the counts give `whole`
 unfoldable pub countsAnswer : Limits → ℕ → ℕ → ℕ → ℕ → ℕ → ℕ → ListAnswer
 countsAnswer lim len whole n m l z =
-    need (leb 1 n && leb n (lim .jobs)) Jobs
+    need (within (lim .jobs) n) Jobs
     ⨾ need (leb m (lim .edges)) Edges
-    ⨾ need (leb 1 l && leb l (lim .slots)) Slots
+    ⨾ need (within (lim .slots) l) Slots
     ⨾ need (eqb len whole) Length
     ⨾ need (eqb z 0) Zero
 
@@ -41,12 +45,20 @@ countsAnswer lim len whole n m l z =
 abbrev pub zeroAnswer : List ℕ → ℕ → ListAnswer
 zeroAnswer s j = need (eqb (jobZero s j) 0) Zero
 
+-- arrival a and deadline d: a < d, and d at most the limit
+unfoldable pub goodTimes : Limits → ℕ → ℕ → Bool
+goodTimes lim a d = ltb a d && leb d (lim .slots)
+
+-- the budgets of a job of level v: 1 <= CLO <= CHI, at most the limit, and a low job has CLO = CHI
+unfoldable pub goodBudgets : Limits → ℕ → ℕ → ℕ → Bool
+goodBudgets lim v lo hi = leb 1 lo && leb lo hi && leb hi (lim .budget) && (eqb v 1 || eqb lo hi)
+
 -- 6, 4, 5: job j of level v, arrival a, deadline d and the budgets lo and hi
 unfoldable pub fieldsAnswer : Limits → ℕ → ℕ → ℕ → ℕ → ℕ → ℕ → ListAnswer
 fieldsAnswer lim j v a d lo hi =
     need (leb v 1) (Level j)
-    ⨾ need (ltb a d && leb d (lim .slots)) (Times j)
-    ⨾ need (leb 1 lo && leb lo hi && leb hi (lim .budget) && (eqb v 1 || eqb lo hi)) (Budgets j)
+    ⨾ need (goodTimes lim a d) (Times j)
+    ⨾ need (goodBudgets lim v lo hi) (Budgets j)
 
 -- the same of job j in the bytes, its high budget read as `chi` says
 abbrev pub jobAnswer : Limits → (ℕ → ℕ) → List ℕ → ℕ → ListAnswer
@@ -66,14 +78,14 @@ unfoldable pub rising : List ℕ → ℕ → ℕ → Bool
 rising s n e =
     eqb e 0 || precedes (edgeFrom s n (e - 1)) (edgeTo s n (e - 1)) (edgeFrom s n e) (edgeTo s n e)
 
--- 7: edge e from p to q, in order or not
-unfoldable pub pairAnswer : ℕ → ℕ → ℕ → ℕ → Bool → ListAnswer
-pairAnswer e n p q inOrder = need (ltb p n && ltb q n && not (eqb p q) && inOrder) (Pair e)
+-- an edge from p to q names two jobs and not one job twice, and it is in order
+unfoldable pub goodPair : ℕ → ℕ → ℕ → Bool → Bool
+goodPair n p q inOrder = ltb p n && ltb q n && not (eqb p q) && inOrder
 
--- 7, 8: edge e in the bytes
+-- 7, 8: edge e
 abbrev pub edgeAnswer : List ℕ → ℕ → ℕ → ListAnswer
 edgeAnswer s n e =
-    pairAnswer e n (edgeFrom s n e) (edgeTo s n e) (rising s n e)
+    need (goodPair n (edgeFrom s n e) (edgeTo s n e) (rising s n e)) (Pair e)
     ⨾ need (leb (level s (edgeTo s n e)) (level s (edgeFrom s n e))) (LowToHigh e)
 
 -- 44, then 6, 4, 5 of each job, 3 by the largest deadline, 7, 8 of each edge, 9: n jobs and m edges

@@ -7,7 +7,7 @@ ghost use Rattle.basics.specs.Bytes.{u16At};
 ghost use Rattle.basics.specs.Limits.{firstEdition};
 ghost use Rattle.joblist.specs.Fields.{headBytes, jobBytes, edgeBytes, jobAt, edgeAt, listBytes, jobs, edges, slots, headZero, arrival, deadline, ordinary, high, level, jobZero, edgeFrom, edgeTo};
 ghost use Rattle.joblist.specs.Cycle.{reached, cyclic, Named};
-ghost use Rattle.joblist.specs.Answer.{each, countsAnswer, fieldsAnswer, zeroAnswer, jobAnswer, largest, rising, pairAnswer, edgeAnswer, bodyAnswer, frontAnswer, listAnswer};
+ghost use Rattle.joblist.specs.Answer.{each, within, countsAnswer, goodTimes, goodBudgets, fieldsAnswer, zeroAnswer, jobAnswer, largest, rising, goodPair, edgeAnswer, bodyAnswer, frontAnswer, listAnswer};
 ghost use Rattle.joblist.specs.Numbers.{numberOf, placeOf, answerNumber, answerPlace};
 
 // The limits of the first edition.
@@ -224,23 +224,30 @@ fn rises(s: &[u8], n: usize, e: usize) -> bool
     false
 }
 
+// Whether x is from 1 to most.
+fn in_range(x: usize, most: usize) -> bool
+    ensures { λ r. ⌜ r ≡ within most x ⌝ }
+{
+    if x < 1 {
+        return false;
+    }
+    if most < x {
+        return false;
+    }
+    true
+}
+
 // The counts, and the zero beside them.
 fn check_counts(len: usize, whole: usize, n: usize, m: usize, l: usize, z: usize) -> ListAnswer
     ensures { λ r. ⌜ r ≡ countsAnswer firstEdition len whole n m l z ⌝ }
 {
-    if n < 1 {
-        return ListAnswer::No(Why::Jobs);
-    }
-    if MOST_JOBS < n {
+    if !in_range(n, MOST_JOBS) {
         return ListAnswer::No(Why::Jobs);
     }
     if MOST_EDGES < m {
         return ListAnswer::No(Why::Edges);
     }
-    if l < 1 {
-        return ListAnswer::No(Why::Slots);
-    }
-    if MOST_SLOTS < l {
+    if !in_range(l, MOST_SLOTS) {
         return ListAnswer::No(Why::Slots);
     }
     if len != whole {
@@ -265,6 +272,41 @@ fn check_zeros(s: &[u8], n: usize) -> ListAnswer
     ListAnswer::Good
 }
 
+// Whether a job may arrive at a and end by d.
+fn good_times(a: usize, d: usize) -> bool
+    ensures { λ r. ⌜ r ≡ goodTimes firstEdition a d ⌝ }
+{
+    if d <= a {
+        return false;
+    }
+    if MOST_SLOTS < d {
+        return false;
+    }
+    true
+}
+
+// Whether a job of level v may have the budgets lo and hi.
+fn good_budgets(v: usize, lo: usize, hi: usize) -> bool
+    ensures { λ r. ⌜ r ≡ goodBudgets firstEdition v lo hi ⌝ }
+{
+    if lo < 1 {
+        return false;
+    }
+    if hi < lo {
+        return false;
+    }
+    if MOST_BUDGET < hi {
+        return false;
+    }
+    if v == 1 {
+        return true;
+    }
+    if lo != hi {
+        return false;
+    }
+    true
+}
+
 // The fields of job j.
 fn check_fields(j: usize, v: usize, a: usize, d: usize, lo: usize, hi: usize) -> ListAnswer
     ensures { λ r. ⌜ r ≡ fieldsAnswer firstEdition j v a d lo hi ⌝ }
@@ -272,25 +314,10 @@ fn check_fields(j: usize, v: usize, a: usize, d: usize, lo: usize, hi: usize) ->
     if 1 < v {
         return ListAnswer::No(Why::Level(j));
     }
-    if d <= a {
+    if !good_times(a, d) {
         return ListAnswer::No(Why::Times(j));
     }
-    if MOST_SLOTS < d {
-        return ListAnswer::No(Why::Times(j));
-    }
-    if lo < 1 {
-        return ListAnswer::No(Why::Budgets(j));
-    }
-    if hi < lo {
-        return ListAnswer::No(Why::Budgets(j));
-    }
-    if MOST_BUDGET < hi {
-        return ListAnswer::No(Why::Budgets(j));
-    }
-    if v == 1 {
-        return ListAnswer::Good;
-    }
-    if lo != hi {
+    if !good_budgets(v, lo, hi) {
         return ListAnswer::No(Why::Budgets(j));
     }
     ListAnswer::Good
@@ -339,23 +366,20 @@ fn largest_of(s: &[u8], n: usize) -> usize
     l
 }
 
-// One edge, by its numbers.
-fn check_pair(e: usize, n: usize, p: usize, q: usize, in_order: bool) -> ListAnswer
-    ensures { λ r. ⌜ r ≡ pairAnswer e n p q in_order ⌝ }
+// Whether an edge may go from p to q.
+fn good_pair(n: usize, p: usize, q: usize, in_order: bool) -> bool
+    ensures { λ r. ⌜ r ≡ goodPair n p q in_order ⌝ }
 {
     if n <= p {
-        return ListAnswer::No(Why::Pair(e));
+        return false;
     }
     if n <= q {
-        return ListAnswer::No(Why::Pair(e));
+        return false;
     }
     if p == q {
-        return ListAnswer::No(Why::Pair(e));
+        return false;
     }
-    if in_order {
-        return ListAnswer::Good;
-    }
-    ListAnswer::No(Why::Pair(e))
+    in_order
 }
 
 // One edge.
@@ -365,10 +389,9 @@ fn check_edge(s: &[u8], n: usize, e: usize) -> ListAnswer
 {
     let p = edge_from(s, n, e);
     let q = edge_to(s, n, e);
-    let v = check_pair(e, n, p, q, rises(s, n, e));
-    let ListAnswer::Good = v else {
-        return v;
-    };
+    if !good_pair(n, p, q, rises(s, n, e)) {
+        return ListAnswer::No(Why::Pair(e));
+    }
     if level_of(s, p) < level_of(s, q) {
         return ListAnswer::No(Why::LowToHigh(e));
     }

@@ -1,0 +1,10 @@
+pub mod Parts
+pub mod Rows
+pub mod Written
+pub mod Accepted
+pub mod Trailer
+pub mod Front
+pub mod ReadBack
+pub mod WriteBack
+pub mod Round
+pub mod Cases

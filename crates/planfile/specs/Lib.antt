@@ -1,3 +1,5 @@
 pub mod Plan
 pub mod Answer
 pub mod Numbers
+pub mod Round
+pub mod Cases

@@ -283,7 +283,10 @@ fn read_parts(plan: &[u8]) -> ReadAnswer
     if let ListAnswer::No(w) = f {
         return ReadAnswer::No(ReadWhy::Checked(Objection::OfList(w)));
     }
-    let v = verdict::check(list_of(plan), low_of(plan), high_of(plan));
+    let list = list_of(plan);
+    let low = low_of(plan);
+    let high = high_of(plan);
+    let v = verdict::check(list, low, high);
     if let Verdict::No(w) = v {
         return ReadAnswer::No(ReadWhy::Checked(w));
     }

@@ -12,7 +12,7 @@ use Rattle.basics.specs.Turns.{inTurn, turns}
 use Rattle.basics.specs.Units.{oneMore}
 use Rattle.frame.specs.Execution.{nextMode, outran, ready, runs, slotWith, step, switchTo, waitsFor}
 use Rattle.frame.specs.Search.{faultAt, faultOf, firstFault, lateJob, needsAfter, owed, reachesBudget, scan, searchFrom, switchAt, switches, trySwitch}
-use Rattle.joblist.specs.Answer.{bodyAnswer, countsAnswer, fieldsAnswer, frontAnswer, largest, listAnswer, pairAnswer, rising}
+use Rattle.joblist.specs.Answer.{bodyAnswer, countsAnswer, fieldsAnswer, frontAnswer, goodBudgets, goodPair, goodTimes, largest, listAnswer, rising, within}
 use Rattle.joblist.specs.Cycle.{cyclic, walk}
 use Rattle.joblist.specs.Fields.{edgeIn}
 use Rattle.joblist.specs.declared.Why.the-variants.{Short}
@@ -44,7 +44,7 @@ pub worked : (checkOf firstEdition listA (table 1 1 0 idle idle) (table 1 1 0 0 
     × (checkOf firstEdition listEdge (table 1 1 0 idle idle) allIdle ≡ No (Bad (Before 0 1 0 noSwitch)))
     × (checkOf firstEdition listA (table 1 1 0 0 idle) (table 1 1 0 0 0) ≡ Yes)
     × (checkOf firstEdition list33 (table 1 1 0 0 0) allIdle ≡ Yes)
-unfolding checkOf tablesAnswer oddEntry listAnswer frontAnswer countsAnswer bodyAnswer fieldsAnswer largest rising pairAnswer cyclic walk anyBelow turns inTurn edgeIn u16At firstFault searchFrom switches switchAt trySwitch reachesBudget scan faultAt faultOf owed lateJob step slotWith outran runs ready waitsFor nextMode find needsAfter oneMore switchTo
+unfolding checkOf tablesAnswer oddEntry listAnswer frontAnswer countsAnswer within bodyAnswer fieldsAnswer goodTimes goodBudgets largest rising goodPair cyclic walk anyBelow turns inTurn edgeIn u16At firstFault searchFrom switches switchAt trySwitch reachesBudget scan faultAt faultOf owed lateJob step slotWith outran runs ready waitsFor nextMode find needsAfter oneMore switchTo
 worked = (refl, refl, refl, refl, refl)
 
 -- 43 before 45, and the odd entry of table LO before that of table HI
@@ -52,5 +52,5 @@ pub refused : (checkOf firstEdition listA (table 9 1 0 idle idle) (1 ∷ []) ≡
     × (checkOf firstEdition listA (table 1 1 0 9 idle) (table 9 9 0 0 0) ≡ No (Entry 3))
     × (checkOf firstEdition listA (table 1 1 0 idle idle) (table 1 2 0 0 0) ≡ No (Entry 1))
     × (checkOf firstEdition [] [] [] ≡ No (OfList Short))
-unfolding checkOf tablesAnswer oddEntry listAnswer frontAnswer countsAnswer bodyAnswer fieldsAnswer largest cyclic walk anyBelow turns inTurn u16At find
+unfolding checkOf tablesAnswer oddEntry listAnswer frontAnswer countsAnswer within bodyAnswer fieldsAnswer goodTimes goodBudgets largest cyclic walk anyBelow turns inTurn u16At find
 refused = (refl, refl, refl, refl)

@@ -1,6 +1,6 @@
 pub mod Find
 pub mod Told
-pub mod Slot
+pub mod OneSlot
 pub mod Square
 pub mod Same
 pub mod SameSearch
@@ -10,3 +10,7 @@ pub mod WellFormed
 pub mod Tables
 pub mod Demand
 pub mod Cases
+pub mod Fill
+pub mod Entries
+pub mod Named
+pub mod Judged

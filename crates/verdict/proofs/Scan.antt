@@ -17,7 +17,7 @@ use Rattle.frame.specs.Execution.{State, nextMode, outran, ready, runs, slotWit
 use Rattle.frame.specs.Jobs.{Frame}
 use Rattle.frame.specs.Search.{faultAt, faultOf, lateJob, owed, scan}
 use Rattle.joblist.specs.Fields.{high, ordinary}
-use Rattle.verdict.proofs.Slot.{runs-left}
+use Rattle.verdict.proofs.OneSlot.{runs-left}
 use Rattle.verdict.proofs.Told.{told-found, told-then}
 use Rattle.verdict.specs.FrameOf.{frameWith}
 use Rattle.verdict.specs.Inner.{Steady, edgeAt, square, told}

@@ -117,11 +117,6 @@ module _ (s : List ℕ) (n l : ℕ) (lo hi : List ℕ) (edge : ℕ → ℕ → B
         ap (λ (k : ℕ). eachSwitch F k t (loUnits t)) (let e : l - t ≡ suc (l - (t + 1)) = omega arith in e)
         ∙ ap₂ (λ (b : Bool) (y : ℕ). orElse (cond b behind nothing) (eachSwitch F (l - (t + 1)) y (loUnits y))) (here-count t (omega arith)) (let e : suc t ≡ t + 1 = omega arith in e)
 
-    -- no switch in slot t
-    pub each-no : switchesAt s n lo t (entryAt lo t) ≡ false → eachSwitch F (l - t) t (loUnits t) ≡ eachSwitch F (l - (t + 1)) (t + 1) (loUnits (t + 1))
-    each-no p =
-        each-turn ∙ ap (λ (b : Bool). orElse (cond b behind nothing) (eachSwitch F (l - (t + 1)) (t + 1) (loUnits (t + 1)))) p
-
     -- the job that switches runs in slot t
     runs-here : switchesAt s n lo t (entryAt lo t) ≡ true → oneMore true (entryAt lo t) (loUnits t) ≡ loUnits (t + 1)
     unfolding loUnits
@@ -133,25 +128,34 @@ module _ (s : List ℕ) (n l : ℕ) (lo hi : List ℕ) (edge : ℕ → ℕ → B
         let d : unitsOf (loUnits t) (entryAt lo t) < ordinary s (entryAt lo t) = omega (arith, lo-count t (entryAt lo t) a, entries-all lo (entryAt lo t) t (omega arith), c) in
         sym (ap loUnits (let e : t + 1 ≡ suc t = omega arith in e) ∙ rw (lt-ltb _ _ a, lt-ltb _ _ d))
 
-    -- a switch in slot t, where the code has the units and the needs in arrays
-    pub each-yes : (had need : List ℕ) → switchesAt s n lo t (entryAt lo t) ≡ true → n ≤ length had → t < noSwitch
-        → ((i : ℕ) → i < n → unitsOf had i ≡ min (ordinary s i) (entriesIn lo i (t + 1)))
-        → ((i : ℕ) → i < n → unitsOf need i ≡ needsHI (square s n []) had (entryAt lo t) i)
-        → eachSwitch F (l - t) t (loUnits t) ≡ orElse (scan F (unitsOf need) (l - (t + 1)) (t + 1) (state 1 0 (chainOf t) had)) (eachSwitch F (l - (t + 1)) (t + 1) (loUnits (t + 1)))
-    unfolding needsHI
-    each-yes had need p len small hs ns =
-        each-turn ∙ ap (λ (x : Finding). orElse x (eachSwitch F (l - (t + 1)) (t + 1) (loUnits (t + 1)))) (ap (λ (b : Bool). cond b behind nothing) p ∙ again)
-      where
-        same : (i : ℕ) → i < n → unitsOf (loUnits (t + 1)) i ≡ unitsOf had i
-        same i a = lo-count (t + 1) i a ∙ ap (min (ordinary s i)) (sym (entries-all lo i (t + 1) (omega arith))) ∙ sym (hs i a)
+    -- as the code reads it: the entry j, and at a switch the units and the needs in arrays
+    module _ (j : ℕ) (at : j ≡ entryAt lo t) where
+      abbrev on : Finding
+      on = eachSwitch F (l - (t + 1)) (t + 1) (loUnits (t + 1))
 
-        needed : (i : ℕ) → i < n → needsHI F (loUnits (t + 1)) (entryAt lo t) i ≡ unitsOf need i
-        needed i a =
-            ap (λ (x : ℕ). elim (not (eqb i (entryAt lo t)) && leb (ordinary s i) x) [ true ↦ ordinary s i | false ↦ high s i ]) (same i a) ∙ sym (ns i a)
+      pub each-no : switchesAt s n lo t j ≡ false → eachSwitch F (l - t) t (loUnits t) ≡ on
+      each-no p = each-turn ∙ ap (λ (b : Bool). orElse (cond b behind nothing) on) (ap (switchesAt s n lo t) (sym at) ∙ p)
 
-        again : behind ≡ scan F (unitsOf need) (l - (t + 1)) (t + 1) (state 1 0 (chainOf t) had)
-        again =
-            ap₂ (λ (v : List ℕ) (y : ℕ). scan F (needsHI F v (entryAt lo t)) (l - (t + 1)) y (state 1 0 (t ∷ []) v)) (runs-here p) (let e : suc t ≡ t + 1 = omega arith in e)
-            ∙ scan-same s n l lo hi edge edge (λ p q x y. refl) (needsHI F (loUnits (t + 1)) (entryAt lo t)) (unitsOf need) needed (l - (t + 1)) (t + 1) _ _
-            (like 1 0 (t ∷ []) (loUnits (t + 1)) had record { at = same; long = omega (arith, lo-length (t + 1)); long′ = len })
-            ∙ ap (λ (c : List ℕ). scan F (unitsOf need) (l - (t + 1)) (t + 1) (state 1 0 c had)) (chain-at t small)
+      pub each-yes : (had need : List ℕ) → switchesAt s n lo t j ≡ true → n ≤ length had → t < noSwitch
+          → ((i : ℕ) → i < n → unitsOf had i ≡ min (ordinary s i) (entriesIn lo i (t + 1)))
+          → ((i : ℕ) → i < n → unitsOf need i ≡ needsHI (square s n []) had j i)
+          → eachSwitch F (l - t) t (loUnits t) ≡ orElse (scan F (unitsOf need) (l - (t + 1)) (t + 1) (state 1 0 (chainOf t) had)) on
+      unfolding needsHI
+      each-yes had need p len small hs ns = each-turn ∙ ap (λ (x : Finding). orElse x on) (ap (λ (b : Bool). cond b behind nothing) here ∙ again)
+        where
+          here : switchesAt s n lo t (entryAt lo t) ≡ true
+          here = ap (switchesAt s n lo t) (sym at) ∙ p
+
+          same : (i : ℕ) → i < n → unitsOf (loUnits (t + 1)) i ≡ unitsOf had i
+          same i a = lo-count (t + 1) i a ∙ ap (min (ordinary s i)) (sym (entries-all lo i (t + 1) (omega arith))) ∙ sym (hs i a)
+
+          needed : (i : ℕ) → i < n → needsHI F (loUnits (t + 1)) (entryAt lo t) i ≡ unitsOf need i
+          needed i a =
+              ap₂ (λ (x y : ℕ). elim (not (eqb i y) && leb (ordinary s i) x) [ true ↦ ordinary s i | false ↦ high s i ]) (same i a) (sym at) ∙ sym (ns i a)
+
+          again : behind ≡ scan F (unitsOf need) (l - (t + 1)) (t + 1) (state 1 0 (chainOf t) had)
+          again =
+              ap₂ (λ (v : List ℕ) (y : ℕ). scan F (needsHI F v (entryAt lo t)) (l - (t + 1)) y (state 1 0 (t ∷ []) v)) (runs-here here) (let e : suc t ≡ t + 1 = omega arith in e)
+              ∙ scan-same s n l lo hi edge edge (λ p q x y. refl) (needsHI F (loUnits (t + 1)) (entryAt lo t)) (unitsOf need) needed (l - (t + 1)) (t + 1) _ _
+              (like 1 0 (t ∷ []) (loUnits (t + 1)) had record { at = same; long = omega (arith, lo-length (t + 1)); long′ = len })
+              ∙ ap (λ (c : List ℕ). scan F (unitsOf need) (l - (t + 1)) (t + 1) (state 1 0 c had)) (chain-at t small)

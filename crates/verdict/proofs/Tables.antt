@@ -47,6 +47,10 @@ module _ (j n : ℕ) where
   pub odd-other : n ≤ j → not (eqb j idle) ≡ not (ltb j n || eqb j idle)
   odd-other a = sym (rw (le-ltb j n a))
 
+-- an entry that was read
+pub odd-at : (table : List ℕ) (n t x : ℕ) → x ≡ entryAt table t → oddTest table n t ≡ not (ltb x n || eqb x idle)
+odd-at table n t x e = ap (λ (y : ℕ). not (ltb y n || eqb y idle)) (sym e)
+
 -- the answers in their order, with the head's numbers as the code has read them
 module _ (s lo hi : List ℕ) (n m l : ℕ) (pn : n ≡ jobs s) (pm : m ≡ edges s) (pl : l ≡ slots s) where
   pub size-lo : ¬ (length lo ≡ l) → No Size ≡ tablesAnswer s lo hi

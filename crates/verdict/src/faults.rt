@@ -68,7 +68,7 @@ fn scan_from(
     let mut had = units;
     let mut t = from;
     let mut q: usize = 0;
-    let v = loop {
+    loop {
         let j = named_at(lo, hi, mode, t);
         let f = fault_at(list, n, before, &had, need, t, mode, q, j, x);
         let Search::Fine = f else {
@@ -82,8 +82,7 @@ fn scan_from(
         }
         q = mode;
         t += 1;
-    };
-    v
+    }
 }
 
 // What each job needs in LO.
@@ -137,7 +136,7 @@ fn needs_after(list: &[u8], n: usize, had: &[usize; MOST_JOBS], k: usize) -> [us
 
 // Whether slot t has a switch: its entry j is a high job with CHI > CLO at its CLO-th unit.
 fn switches_at(list: &[u8], n: usize, lo: &[u8], t: usize, j: usize) -> bool
-    requires { ⌜ jobAt n ≤ length (now list) ⌝ }
+    requires { ⌜ (jobAt n ≤ length (now list)) × (t < firstEdition .slots) ⌝ }
     ensures { λ r. ⌜ r ≡ switchesAt (now (list .entry)) n (now (lo .entry)) t j ⌝ }
 {
     if n <= j {
@@ -166,7 +165,7 @@ fn switches_from(
     ensures { λ r. ⌜ r ≡ told (eachSwitch (frameWith (now (list .entry)) n l (now (lo .entry)) (now (hi .entry)) (edgeAt (now (before .entry)))) l 0 (replicate n 0)) ⌝ }
 {
     let mut t: usize = 0;
-    let v = loop {
+    loop {
         if l <= t {
             break Search::Fine;
         }
@@ -180,8 +179,7 @@ fn switches_from(
             };
         }
         t += 1;
-    };
-    v
+    }
 }
 
 // The edges as a square of bits.

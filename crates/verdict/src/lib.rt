@@ -128,7 +128,7 @@ fn first_odd(table: &[u8], n: usize) -> First
     ensures { λ r. ⌜ r ≡ firstOf (oddEntry (now (table .entry)) n) ⌝ }
 {
     let mut t: usize = 0;
-    let v = loop {
+    loop {
         if table.len() <= t {
             break First::Nothing;
         }
@@ -136,8 +136,7 @@ fn first_odd(table: &[u8], n: usize) -> First
             break First::At(t);
         }
         t += 1;
-    };
-    v
+    }
 }
 
 // The two tables of a good list.

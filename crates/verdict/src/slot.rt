@@ -2,7 +2,7 @@
 // Throughout: had and need are the units of each job, q is the mode of the slot before, and x the switch slot.
 ghost use mathlib.Core.Path.{_≡_};
 ghost use mathlib.Core.List.{[]};
-ghost use mathlib.Core.Bool.{_&&_};
+ghost use mathlib.Core.Bool.{true, _&&_};
 ghost use Prim.Native.Nat.{_+_, _<_, _≤_};
 ghost use lib.ListN.{length};
 ghost use lib.Dec.{eqb, leb, ltb};
@@ -49,7 +49,7 @@ fn late_at(
     ensures { λ r. ⌜ r ≡ lateTold t x (lateJob (square (now (list .entry)) n []) (unitsOf (now (need .entry))) t q (now (had .entry))) ⌝ }
 {
     let mut i: usize = 0;
-    let v = loop {
+    loop {
         if n <= i {
             break Search::Fine;
         }
@@ -57,8 +57,7 @@ fn late_at(
             break Search::Found(Fault::Late(t, i, x));
         }
         i += 1;
-    };
-    v
+    }
 }
 
 // Whether a predecessor is unfinished.
@@ -83,7 +82,7 @@ fn waits_for(
     ensures { λ r. ⌜ r ≡ firstOf (waitsFor (square [] n (now (before .entry))) (unitsOf (now (need .entry))) (now (had .entry)) j) ⌝ }
 {
     let mut p: usize = 0;
-    let v = loop {
+    loop {
         if n <= p {
             break First::Nothing;
         }
@@ -91,8 +90,7 @@ fn waits_for(
             break First::At(p);
         }
         p += 1;
-    };
-    v
+    }
 }
 
 // The named job j: too early, or before a predecessor.
@@ -151,7 +149,7 @@ pub(crate) fn fault_at(
     named_fault(list, n, before, had, need, t, mode, j, x)
 }
 
-// Whether the job j, named in slot t, runs.
+// Whether the job j, named in slot t, runs; one that does is a job, and has units left.
 pub(crate) fn runs_at(
     list: &[u8],
     n: usize,
@@ -163,7 +161,7 @@ pub(crate) fn runs_at(
     j: usize,
 ) -> bool
     requires { ⌜ (n ≤ firstEdition .jobs) × (jobAt n ≤ length (now list)) ⌝ }
-    ensures { λ r. ⌜ r ≡ runs (square (now (list .entry)) n (now (before .entry))) (unitsOf (now (need .entry))) t mode (now (had .entry)) j ⌝ }
+    ensures { λ r. ⌜ (r ≡ runs (square (now (list .entry)) n (now (before .entry))) (unitsOf (now (need .entry))) t mode (now (had .entry)) j) × (r ≡ true → (j < n) × (unitsOf (now (had .entry)) j < unitsOf (now (need .entry)) j)) ⌝ }
 {
     if n <= j {
         return false;

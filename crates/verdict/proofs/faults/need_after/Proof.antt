@@ -1,21 +1,18 @@
+-- `need_after` meets its contract.
+-- Assumes nothing.
 use borrow.Author.Needs.{needs}
-use native.Mathlib.Omega.{arith}
+use Rattle.verdict.proofs.OneSlot.{need-done, need-open}
 use Rattle.verdict.proofs.faults.need_after.Statement.{statement}
 use Rattle.verdict.proofs.faults.need_after.Tie as tie
-use Rattle.verdict.proofs.faults.need_after.Reads as reads
-use Rattle.verdict.proofs.faults.need_after.Lts as lts
 
--- src/faults.rt:118:9
 returns : tie.Need-returns
 returns c = search needs
 
--- src/faults.rt:121:9
 returns-2 : tie.Need-returns-2
-returns-2 c = ?
+returns-2 c = let a = c .before .before .args in need-done (a .had) (a .clo) (a .chi) (a .own) (c .before .if1 .left) (c .if2 .taken)
 
--- src/faults.rt:114:1
 returns-3 : tie.Need-returns-3
-returns-3 c = ?
+returns-3 c = let a = c .before .before .args in need-open (a .had) (a .clo) (a .chi) (a .own) (c .if2 .left)
 
 pub need-after-spec : {M : Type 1} → statement M
 need-after-spec = tie.close (tie.spec returns returns-2 returns-3)

@@ -1,48 +1,44 @@
-use borrow.Author.Needs.{needs}
+-- `needs_at_first` meets its contract: entry i is the ordinary budget of job i.
+-- Assumes nothing.
+use mathlib.Core.Path.{_≡_, refl}
+use Prim.Native.Nat.{_-_, _<_, _≤_, ℕ}
 use native.Mathlib.Omega.{arith}
+use lib.ListN.{length, length-set}
+use Rattle.basics.specs.Units.{unitsOf}
+use Rattle.joblist.specs.Fields.{ordinary}
+use Rattle.verdict.proofs.Fill.{fill-more}
 use Rattle.verdict.proofs.faults.needs_at_first.Statement.{statement}
 use Rattle.verdict.proofs.faults.needs_at_first.Tie as tie
-use Rattle.verdict.proofs.faults.needs_at_first.Reads as reads
-use Rattle.verdict.proofs.faults.needs_at_first.Lts as lts
-use Rattle.joblist.proofs.ordinary_of.Reads as ordinary-of-reads
 
 abbrev Inv-loop : tie.InvT-loop
-Inv-loop list n need₀ i₀ need i = ?
+Inv-loop list n need₀ i₀ need i = (i ≤ n) × (length need ≡ 64) × ((k : ℕ) → k < i → unitsOf need k ≡ ordinary list k)
 
 abbrev μ-loop : tie.MeasureT-loop
-μ-loop list n need₀ i₀ need i = ?
+μ-loop list n need₀ i₀ need i = n - i
 
--- src/faults.rt:95:5
 loop-holds : tie.Need-loop-holds Inv-loop μ-loop
-loop-holds c = ?
+loop-holds c = (omega arith, refl, λ k h. absurd (omega arith))
 
--- src/faults.rt:96:19
 ordinary-of-requires : tie.Need-ordinary-of-requires Inv-loop μ-loop
-ordinary-of-requires c κs = ?
+ordinary-of-requires c κs = omega arith
 
--- src/faults.rt:96:9
 mul-need : tie.Need-mul-need Inv-loop μ-loop
-mul-need c = ?
+mul-need c = omega arith
 
--- src/faults.rt:96:9
 array-write-need : tie.Need-array-write-need Inv-loop μ-loop
-array-write-need c = ?
+array-write-need c = omega arith
 
--- src/faults.rt:95:9
 add-i : tie.Need-add-i Inv-loop μ-loop
-add-i c = ?
+add-i c = omega arith
 
--- src/faults.rt:95:5
 loop-less : tie.Need-loop-less Inv-loop μ-loop
-loop-less c = ?
+loop-less c = omega arith
 
--- src/faults.rt:95:5
 loop-again : tie.Need-loop-again Inv-loop μ-loop
-loop-again c = ?
+loop-again c = let a = c .before .before .before .before .args in let o = c .before .before .loop in (omega arith, simp length-set (o .inv .1), fill-more (o .need) (o .i) (c .ordinary-of .result) (ordinary (a .list .now)) (omega arith) (o .inv .2) (c .ordinary-of .ensures .0))
 
--- src/faults.rt:90:1
 returns : tie.Need-returns Inv-loop μ-loop
-returns c = ?
+returns c = λ k h. c .before .loop .inv .2 k (omega arith)
 
 pub needs-at-first-spec : {M : Type 1} → statement M
 needs-at-first-spec =

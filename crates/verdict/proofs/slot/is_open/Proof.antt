@@ -1,15 +1,15 @@
+-- `is_open` meets its contract.
+-- Assumes nothing.
+use mathlib.Core.Bool.{Bool, _&&_}
+use mathlib.Core.Path.{ap, sym}
 use borrow.Author.Needs.{needs}
-use native.Mathlib.Omega.{arith}
+use lib.Dec.{ltb}
 use Rattle.verdict.proofs.slot.is_open.Statement.{statement}
 use Rattle.verdict.proofs.slot.is_open.Tie as tie
-use Rattle.verdict.proofs.slot.is_open.Reads as reads
-use Rattle.verdict.proofs.slot.is_open.Lts as lts
 
--- src/slot.rt:69:9
 returns : tie.Need-returns
-returns c = ?
+returns c = let a = c .before .args in sym (ap (λ (b : Bool). b && ltb (a .had) (a .need)) (c .if1 .taken))
 
--- src/slot.rt:65:1
 returns-2 : tie.Need-returns-2
 returns-2 c = search needs
 

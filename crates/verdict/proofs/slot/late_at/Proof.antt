@@ -1,60 +1,55 @@
-use borrow.Author.Needs.{needs}
+-- `late_at` meets its contract: at i the lowest late job is the lowest from i on.
+-- Assumes nothing.
+use mathlib.Core.List.{[]}
+use mathlib.Core.Path.{_∙_, _≡_, ap, sym}
+use Prim.Native.Nat.{_-_, _≤_}
 use native.Mathlib.Omega.{arith}
+use Rattle.basics.specs.Units.{unitsOf}
+use Rattle.frame.specs.Search.{lateJob}
+use Rattle.verdict.proofs.Find.{find-end, find-here, find-on, findFrom}
+use Rattle.verdict.proofs.OneSlot.{late-from, lateTest}
+use Rattle.verdict.specs.Inner.{lateTold, square}
 use Rattle.verdict.proofs.slot.late_at.Statement.{statement}
 use Rattle.verdict.proofs.slot.late_at.Tie as tie
-use Rattle.verdict.proofs.slot.late_at.Reads as reads
-use Rattle.verdict.proofs.slot.late_at.Lts as lts
-use Rattle.verdict.proofs.slot.is_late.Reads as is-late-reads
 
 abbrev Inv-loop : tie.InvT-loop
-Inv-loop list n had need t q x i₀ i = ?
+Inv-loop list n had need t q x i₀ i = (i ≤ n) × (lateJob (square list n []) (unitsOf need) t q had ≡ findFrom (lateTest list need had t q) n i)
 
 abbrev μ-loop : tie.MeasureT-loop
-μ-loop list n had need t q x i₀ i = ?
+μ-loop list n had need t q x i₀ i = n - i
 
--- src/slot.rt:52:9
 loop-holds : tie.Need-loop-holds Inv-loop μ-loop
-loop-holds c = ?
+loop-holds c = let a = c .before .args in (omega arith, late-from (a .list .now) (a .n) (a .need .now) (a .had .now) (a .t) (a .q))
 
--- src/slot.rt:56:29
 mul-is-late : tie.Need-mul-is-late Inv-loop μ-loop
-mul-is-late c = ?
+mul-is-late c = omega arith
 
--- src/slot.rt:56:29
 element-copy-out-is-late : tie.Need-element-copy-out-is-late Inv-loop μ-loop
-element-copy-out-is-late c = ?
+element-copy-out-is-late c = omega arith
 
--- src/slot.rt:56:37
 mul-is-late-2 : tie.Need-mul-is-late-2 Inv-loop μ-loop
-mul-is-late-2 c = ?
+mul-is-late-2 c = omega arith
 
--- src/slot.rt:56:37
 element-copy-out-is-late-2 : tie.Need-element-copy-out-is-late-2 Inv-loop μ-loop
-element-copy-out-is-late-2 c = ?
+element-copy-out-is-late-2 c = omega arith
 
--- src/slot.rt:56:12
 is-late-requires : tie.Need-is-late-requires Inv-loop μ-loop
-is-late-requires c κs = ?
+is-late-requires c κs = omega arith
 
--- src/slot.rt:59:9
 add-i : tie.Need-add-i Inv-loop μ-loop
-add-i c = ?
+add-i c = omega arith
 
--- src/slot.rt:52:9
 loop-less : tie.Need-loop-less Inv-loop μ-loop
-loop-less c = ?
+loop-less c = omega arith
 
--- src/slot.rt:52:9
 loop-again : tie.Need-loop-again Inv-loop μ-loop
-loop-again c = ?
+loop-again c = let a = c .before .before .before .before .before .before .before .args in let o = c .before .before .before .before .before .loop in (omega arith, o .inv .1 ∙ find-on (lateTest (a .list .now) (a .need .now) (a .had .now) (a .t) (a .q)) (a .n) (o .i) (c .before .before .before .before .if1 .left) (sym (c .before .is-late .ensures) ∙ c .if2 .left))
 
--- src/slot.rt:39:1
 returns : tie.Need-returns Inv-loop μ-loop
-returns c = ?
+returns c = let a = c .before .before .before .args in let o = c .before .loop in sym (ap (lateTold (a .t) (a .x)) (o .inv .1 ∙ find-end (lateTest (a .list .now) (a .need .now) (a .had .now) (a .t) (a .q)) (a .n) (o .i) (c .if1 .taken)))
 
--- src/slot.rt:39:1
 returns-2 : tie.Need-returns-2 Inv-loop μ-loop
-returns-2 c = ?
+returns-2 c = let a = c .before .before .before .before .before .before .before .args in let o = c .before .before .before .before .before .loop in sym (ap (lateTold (a .t) (a .x)) (o .inv .1 ∙ find-here (lateTest (a .list .now) (a .need .now) (a .had .now) (a .t) (a .q)) (a .n) (o .i) (c .before .before .before .before .if1 .left) (sym (c .before .is-late .ensures) ∙ c .if2 .taken)))
 
 pub late-at-spec : {M : Type 1} → statement M
 late-at-spec =

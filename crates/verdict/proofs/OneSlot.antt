@@ -1,8 +1,8 @@
 -- The tests of one slot, case by case.
 -- Assumes nothing.
-use mathlib.Core.Bool.{Bool, _&&_, and-false, false, true}
+use mathlib.Core.Bool.{Bool, _&&_, and-false, cond, false, not, true}
 use mathlib.Core.List.{List, []}
-use mathlib.Core.Path.{_∙_, _≡_, ap, sym}
+use mathlib.Core.Path.{_∙_, _≡_, ap, refl, sym}
 use Prim.Native.Nat.{_<_, _≤_, ℕ}
 use borrow.Author.Tests.{eq-eqb, le-leb, le-ltb, lt-leb, lt-ltb, ltb-true, ne-eqb}
 use lib.Dec.{eqb, leb, ltb}
@@ -12,7 +12,8 @@ use Rattle.basics.specs.Units.{unitsOf}
 use Rattle.frame.specs.Execution.{ready, runs, waitsFor}
 use Rattle.frame.specs.Jobs.{Frame}
 use Rattle.frame.specs.Search.{lateJob, owed}
-use Rattle.joblist.specs.Fields.{arrival, deadline, level}
+use Rattle.frame.specs.TwoLevels.{needsHI}
+use Rattle.joblist.specs.Fields.{arrival, deadline, high, level, ordinary}
 use Rattle.verdict.proofs.Find.{find-start, findFrom}
 use Rattle.verdict.specs.FrameOf.{frameWith}
 use Rattle.verdict.specs.Inner.{edgeAt, square}
@@ -100,3 +101,20 @@ module _ (s : List ℕ) (n l : ℕ) (lo hi : List ℕ) (edge : ℕ → ℕ → B
     unfolding runs
     runs-left p =
         (ltb-true _ _ (and-left (ltb j n) _ p), ltb-true _ _ (and-left (ltb (unitsOf u j) (e j)) _ (and-right (ltb j n) _ p)))
+
+-- what a job needs after a switch
+pub need-is : (s : List ℕ) (n : ℕ) (had : List ℕ) (k i v : ℕ) → v ≡ cond (not (eqb i k) && leb (ordinary s i) (unitsOf had i)) (ordinary s i) (high s i)
+    → v ≡ needsHI (square s n []) had k i
+unfolding needsHI
+need-is s n had k i v h = h ∙ go (not (eqb i k) && leb (ordinary s i) (unitsOf had i))
+  where
+    go : (b : Bool) → cond b (ordinary s i) (high s i) ≡ elim b [ true ↦ ordinary s i | false ↦ high s i ]
+    go true = refl
+    go false = refl
+
+module _ (had clo chi : ℕ) where
+  pub need-done : (own : Bool) → own ≡ false → clo ≤ had → clo ≡ cond (not own && leb clo had) clo chi
+  need-done own p h = sym (rw (p, le-leb clo had h))
+
+  pub need-open : (own : Bool) → had < clo → chi ≡ cond (not own && leb clo had) clo chi
+  need-open own h = sym (rw (lt-leb clo had h, and-false (not own)))

@@ -1,0 +1,44 @@
+-- `low_of` meets its contract: the part after the list, as many bytes as a table has.
+-- Assumes nothing.
+use borrow.Author.Needs.{needs}
+use mathlib.Core.Path.{_∙_, sym}
+use Rattle.planfile.proofs.Parts.{part-none, part-some}
+use Rattle.planfile.proofs.low_of.Statement.{statement}
+use Rattle.planfile.proofs.low_of.Tie as tie
+
+sub-result : tie.Need-sub-result
+sub-result c = search needs
+
+part-result-start : tie.Need-part-result-start
+part-result-start c = search needs
+
+part-result-end : tie.Need-part-result-end
+part-result-end c = search needs
+
+returns : tie.Need-returns
+returns c = sym (part-none _ _ _ (c .before .if1 .taken))
+
+low-at-requires : tie.Need-low-at-requires
+low-at-requires c κs = search needs
+
+slots-of-requires : tie.Need-slots-of-requires
+slots-of-requires c κs = search needs
+
+part-requires : tie.Need-part-requires
+part-requires c κs = search needs
+
+returns-2 : tie.Need-returns-2
+returns-2 c = c .part .ensures ∙ rw (c .before .before .low-at .ensures .0, c .before .slots-of .ensures .0) (sym (part-some _ _ _ (c .before .before .before .if1 .left)))
+
+pub low-of-spec : {M : Type 1} → statement M
+low-of-spec =
+    tie.close
+    (tie.spec
+    sub-result
+    part-result-start
+    part-result-end
+    returns
+    low-at-requires
+    slots-of-requires
+    part-requires
+    returns-2)
