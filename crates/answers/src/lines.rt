@@ -4,6 +4,7 @@ use crate::fields::part;
 use crate::reply::reply;
 use crate::request::Request;
 use crate::request::request_of;
+use dispatch::state::State;
 use libc::STDIN_FILENO;
 use libc::STDOUT_FILENO;
 
@@ -16,37 +17,50 @@ const MOST_DECODED: usize = MOST_LINE / 2;
 // Answers are written before they fill half of this; no answer is longer than a quarter.
 const ANSWERS: usize = 65536;
 
-// The bytes of a line that are kept, one more than there is room for where the line is too long; and the place after the last answer.
+// The bytes of a line that are kept, one more than there is room for where the line is too long; the place after the last answer; and the dispatcher's state.
 struct Desk {
     held: usize,
     at: usize,
+    state: State,
+}
+
+// Before the first open the state is all zero.
+fn fresh() -> Desk {
+    let state = State::zero();
+    Desk {
+        held: 0,
+        at: 0,
+        state: state,
+    }
 }
 
 // Keeps a part of a line, where it fits.
-fn hold(line: &mut [u8], s: &[u8], d: Desk) -> Desk {
+fn hold(line: &mut [u8], s: &[u8], mut d: Desk) -> Desk {
     if s.len() == 0 {
         return d;
     }
     let next = text::put(line, d.held, s);
     if next == d.held {
-        return Desk {
-            held: line.len() + 1,
-            at: d.at,
-        };
+        d.held = line.len() + 1;
+        return d;
     }
-    Desk {
-        held: next,
-        at: d.at,
-    }
+    d.held = next;
+    d
 }
 
 // Writes the answers that are gathered.
-fn send(out: &[u8], d: Desk) -> Desk {
+fn send(out: &[u8], mut d: Desk) -> Desk {
     io::write_all(STDOUT_FILENO, part(out, 0, d.at));
-    Desk {
-        held: d.held,
-        at: 0,
+    d.at = 0;
+    d
+}
+
+// The same, once half of the room for answers is used.
+fn send_early(out: &[u8], d: Desk) -> Desk {
+    if out.len() / 2 < d.at {
+        return send(out, d);
     }
+    d
 }
 
 // What the line that is kept asks.
@@ -57,18 +71,22 @@ fn asked(line: &[u8], held: usize, room: &mut [u8]) -> Request {
     request_of(part(line, 0, held), room)
 }
 
-// Answers the line that is kept; the next one begins.
+// The answer to a request, and its newline; the next line begins.
+fn answer(room: &[u8], r: Request, out: &mut [u8], d: Desk) -> Desk {
+    let a = reply(room, r, d.state, out, d.at);
+    let state = a.state;
+    Desk {
+        held: 0,
+        at: text::put(out, a.at, b"\n"),
+        state: state,
+    }
+}
+
+// Answers the line that is kept.
 fn end_line(line: &[u8], room: &mut [u8], out: &mut [u8], d: Desk) -> Desk {
     let r = asked(line, d.held, room);
-    let next = reply(room, r, out, d.at);
-    let ended = Desk {
-        held: 0,
-        at: text::put(out, next, b"\n"),
-    };
-    if out.len() / 2 < ended.at {
-        return send(out, ended);
-    }
-    ended
+    let next = answer(room, r, out, d);
+    send_early(out, next)
 }
 
 // Keeps the bytes of a chunk from `from` to `to`, and answers the line where it ends there.
@@ -89,13 +107,7 @@ fn take_part(
 }
 
 // Answers every line that ends in a chunk, and keeps the rest.
-fn take_chunk(
-    chunk: &[u8],
-    line: &mut [u8],
-    room: &mut [u8],
-    out: &mut [u8],
-    desk: Desk,
-) -> Desk {
+fn take_chunk(chunk: &[u8], line: &mut [u8], room: &mut [u8], out: &mut [u8], desk: Desk) -> Desk {
     let mut d = desk;
     let mut from: usize = 0;
     while from < chunk.len() {
@@ -123,8 +135,14 @@ fn turns_left(turns: u64, n: usize) -> u64
 }
 
 // Reads to the end of the input. A proved loop ends, and nothing says that the input does: so turns are counted, from a number that no run uses up.
-fn take_all(chunk: &mut [u8], line: &mut [u8], room: &mut [u8], out: &mut [u8]) -> Desk {
-    let mut d = Desk { held: 0, at: 0 };
+fn take_all(
+    chunk: &mut [u8],
+    line: &mut [u8],
+    room: &mut [u8],
+    out: &mut [u8],
+    desk: Desk,
+) -> Desk {
+    let mut d = desk;
     let mut turns = u64::MAX;
     while 0 < turns {
         let n = read_some(chunk);
@@ -140,7 +158,7 @@ pub(crate) fn answer_all() {
     let mut line = [0u8; MOST_LINE];
     let mut room = [0u8; MOST_DECODED];
     let mut out = [0u8; ANSWERS];
-    let d = take_all(&mut chunk, &mut line, &mut room, &mut out);
+    let d = take_all(&mut chunk, &mut line, &mut room, &mut out, fresh());
     if 0 < d.held {
         let last = end_line(&line, &mut room, &mut out, d);
         send(&out, last);

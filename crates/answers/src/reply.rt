@@ -1,5 +1,7 @@
 // The answer to each request, by the proved calls.
 use crate::fields::part;
+use crate::poke::Field;
+use crate::poke::poke;
 use crate::request::MOST_ROOM;
 use crate::request::Request;
 use crate::request::Span;
@@ -7,10 +9,20 @@ use crate::request::Tables;
 use crate::say::put_bytes;
 use crate::say::put_place;
 use crate::say::put_spot;
+use crate::say::put_value;
+use crate::show::put_state;
+use dispatch::answer::Answer;
+use dispatch::state::State;
 use planfile::ReadAnswer;
 
 // What lent bytes hold before a call.
 const LENT: u8 = 0xaa;
+
+// The place after the answer, and the dispatcher's state.
+pub(crate) struct Replied {
+    pub at: usize,
+    pub state: State,
+}
 
 fn bytes_at(room: &[u8], s: Span) -> &[u8] {
     part(room, s.from, s.to)
@@ -70,12 +82,69 @@ fn reply_read(room: &[u8], s: Span, out: &mut [u8], at: usize) -> usize {
     }
 }
 
-pub(crate) fn reply(room: &[u8], r: Request, out: &mut [u8], at: usize) -> usize {
+fn reply_open(room: &[u8], s: Span, first: usize, out: &mut [u8], at: usize) -> Replied {
+    let o = dispatch::open::open(bytes_at(room, s), (first % 65536) as u16);
+    let a = o.answer;
+    let state = o.state;
+    let next = text::put_number(out, at, planfile::read_number(a));
+    let placed = put_spot(out, next, planfile::read_place(a));
+    Replied {
+        at: put_state(out, placed, state),
+        state: state,
+    }
+}
+
+// The order, or the job of a refusal that has one.
+fn put_order(out: &mut [u8], at: usize, a: Answer) -> usize {
+    match a {
+        Answer::Order(j) => put_value(out, at, b" order=", j as usize),
+        Answer::No(_) => match a.place() {
+            dispatch::answer::Place::Nowhere => at,
+            dispatch::answer::Place::Job(j) => put_value(out, at, b" job=", j as usize),
+        },
+    }
+}
+
+fn reply_step(s: State, tick: usize, ended: bool, out: &mut [u8], at: usize) -> Replied {
+    let r = s.step((tick % 65536) as u16, ended);
+    let a = r.answer;
+    let state = r.state;
+    let next = text::put_number(out, at, a.number() as usize);
+    let placed = put_order(out, next, a);
+    Replied {
+        at: put_state(out, placed, state),
+        state: state,
+    }
+}
+
+fn reply_poke(s: State, f: Field, i: usize, v: usize, out: &mut [u8], at: usize) -> Replied {
+    let state = poke(s, f, i, v);
+    let next = text::put(out, at, b"0");
+    Replied {
+        at: put_state(out, next, state),
+        state: state,
+    }
+}
+
+// A request that leaves the state as it is.
+fn reply_bytes(room: &[u8], r: Request, out: &mut [u8], at: usize) -> usize {
     match r {
         Request::List(list) => reply_list(room, list, out, at),
         Request::Check(t) => reply_check(room, t, out, at),
         Request::Write(t, n) => reply_write(room, t, n, out, at),
         Request::Read(plan) => reply_read(room, plan, out, at),
-        Request::Unreadable => text::put(out, at, b"?"),
+        _ => text::put(out, at, b"?"),
+    }
+}
+
+pub(crate) fn reply(room: &[u8], r: Request, s: State, out: &mut [u8], at: usize) -> Replied {
+    match r {
+        Request::Open(plan, first) => reply_open(room, plan, first, out, at),
+        Request::Step(tick, ended) => reply_step(s, tick, ended, out, at),
+        Request::Poke(f, i, v) => reply_poke(s, f, i, v, out, at),
+        _ => Replied {
+            at: reply_bytes(room, r, out, at),
+            state: s,
+        },
     }
 }

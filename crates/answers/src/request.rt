@@ -2,13 +2,18 @@
 use crate::fields::Fields;
 use crate::fields::field;
 use crate::fields::split;
+use crate::poke::Field;
+use crate::poke::field_of;
+use crate::poke::kind_of;
 use check::same;
 use text::Decimal;
 use text::Unhexed;
 
 // No number is larger, and no more bytes are read or lent.
 const MOST_NUMBER: usize = 65535;
+
 const MOST_BYTES: usize = 65536;
+
 pub(crate) const MOST_ROOM: usize = 4096;
 
 // Where decoded bytes stand.
@@ -29,6 +34,9 @@ pub(crate) enum Request {
     Check(Tables),
     Write(Tables, usize),
     Read(Span),
+    Open(Span, usize),
+    Step(usize, bool),
+    Poke(Field, usize, usize),
     Unreadable,
 }
 
@@ -121,6 +129,50 @@ fn read_read(line: &[u8], f: Fields, room: &mut [u8]) -> Request {
     Request::Read(plan)
 }
 
+fn read_open(line: &[u8], f: Fields, room: &mut [u8]) -> Request {
+    if f.count != 3 {
+        return Request::Unreadable;
+    }
+    let Bytes::At(plan) = bytes_of(line, f, 1, room, 0) else {
+        return Request::Unreadable;
+    };
+    let Decimal::Is(first) = text::number(field(line, f, 2), MOST_NUMBER) else {
+        return Request::Unreadable;
+    };
+    Request::Open(plan, first)
+}
+
+fn read_step(line: &[u8], f: Fields) -> Request {
+    if f.count != 3 {
+        return Request::Unreadable;
+    }
+    let Decimal::Is(tick) = text::number(field(line, f, 1), MOST_NUMBER) else {
+        return Request::Unreadable;
+    };
+    let Decimal::Is(ended) = text::number(field(line, f, 2), 1) else {
+        return Request::Unreadable;
+    };
+    Request::Step(tick, ended == 1)
+}
+
+fn read_poke(line: &[u8], f: Fields) -> Request {
+    if f.count != 4 {
+        return Request::Unreadable;
+    }
+    let name = field_of(field(line, f, 1));
+    let kind = kind_of(name);
+    let Decimal::Is(i) = text::number(field(line, f, 2), MOST_NUMBER) else {
+        return Request::Unreadable;
+    };
+    if kind.places <= i {
+        return Request::Unreadable;
+    }
+    let Decimal::Is(v) = text::number(field(line, f, 3), kind.most) else {
+        return Request::Unreadable;
+    };
+    Request::Poke(name, i, v)
+}
+
 pub(crate) fn request_of(line: &[u8], room: &mut [u8]) -> Request {
     let f = split(line);
     let word = field(line, f, 0);
@@ -135,6 +187,15 @@ pub(crate) fn request_of(line: &[u8], room: &mut [u8]) -> Request {
     }
     if same(word, b"read") {
         return read_read(line, f, room);
+    }
+    if same(word, b"open") {
+        return read_open(line, f, room);
+    }
+    if same(word, b"step") {
+        return read_step(line, f);
+    }
+    if same(word, b"poke") {
+        return read_poke(line, f);
     }
     Request::Unreadable
 }

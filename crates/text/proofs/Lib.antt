@@ -1,2 +1,3 @@
 pub mod Digits
 pub mod Counting
+pub mod Back
