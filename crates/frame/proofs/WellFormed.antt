@@ -7,7 +7,6 @@ use lib.Dec.{T, eqb, eqb→eq, leb, leb→le, ltb, ltb→lt}
 use Rattle.basics.proofs.Below.{all-at}
 use Rattle.basics.proofs.Tests.{and-l, and-r, of-true, or-not, truth}
 use Rattle.basics.specs.Below.{allBelow}
-use Rattle.frame.proofs.Units.{modes}
 use Rattle.frame.specs.Jobs.{Frame, WellFormed}
 
 T-at : (f : ℕ → Bool) (n i : ℕ) → T (allBelow f n) → i < n → T (f i)

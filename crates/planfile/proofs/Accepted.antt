@@ -20,8 +20,8 @@ use Rattle.verdict.specs.Demand.{Input}
 use Rattle.verdict.specs.Answer.{ofList, checkOf}
 use Rattle.verdict.specs.declared.Verdict.{Verdict}
 use Rattle.verdict.specs.declared.Verdict.the-variants.{Yes, No as Objects}
-use Rattle.planfile.specs.Plan.{mark, trailerBytes, planBytes, leastBytes, mostBytes, listOf, lowOf, highOf}
-use Rattle.planfile.specs.Answer.{need as needed, reading, partsAnswer, readOf, writing}
+use Rattle.planfile.specs.Plan.{mark, trailerBytes, planOf, planBytes, leastBytes, mostBytes, listOf, lowOf, highOf}
+use Rattle.planfile.specs.Answer.{need as needed, reading, partsAnswer, readOf, writing, writeOf}
 use Rattle.planfile.specs.declared.ReadAnswer.{ReadAnswer}
 use Rattle.planfile.specs.declared.ReadAnswer.the-variants.{Plan}
 use Rattle.planfile.specs.declared.ReadWhy.{ReadWhy}
@@ -41,14 +41,18 @@ module _ (lim : Limits) (s lo hi : List ℕ) (yes : checkOf lim s lo hi ≡ Yes)
       let a = accepted lim s (p .list) in
       omega (arith, list-length lim s (p .list), p .low .size, p .high .size, a .mostJobs, a .mostEdges, a .mostSlots)
 
--- a write that says a length: the check says yes, the length is the plan's, and there is room
-pub wrote-yes : (v : Verdict) (size room k : ℕ) → writing v size room ≡ Bytes k → (v ≡ Yes) × (size ≡ k) × (size ≤ room)
-wrote-yes (Objects w) size room k h = let z : _≡_ {A = ℕ} 0 1 = cc in absurd (omega arith)
-wrote-yes Yes size room k h = go (leb size room) refl h
+said : (v : Verdict) (size room k : ℕ) → writing v size room ≡ Bytes k → (v ≡ Yes) × (size ≡ k) × (size ≤ room)
+said (Objects w) size room k h = let z : _≡_ {A = ℕ} 0 1 = cc in absurd (omega arith)
+said Yes size room k h = go (leb size room) refl h
   where
     go : (b : Bool) → leb size room ≡ b → cond b (Bytes size) (Unwritten Room) ≡ Bytes k → (_≡_ {A = Verdict} Yes Yes) × (size ≡ k) × (size ≤ room)
     go true e g = (refl, (let z : size ≡ k = cc in z), leb-true _ _ e)
     go false e g = let z : _≡_ {A = ℕ} 0 1 = cc in absurd (omega arith)
+
+-- a write that says a length: the check says yes, the length is the plan's, and there is room
+pub wrote-yes : (lim : Limits) (list lo hi : List ℕ) (room size : ℕ) → writeOf lim list lo hi room ≡ Bytes size → (checkOf lim list lo hi ≡ Yes) × (length (planOf list lo hi) ≡ size) × (length (planOf list lo hi) ≤ room)
+unfolding writeOf
+wrote-yes lim list lo hi room size h = said (checkOf lim list lo hi) (length (planOf list lo hi)) room size h
 
 -- a plan that the reader accepts
 pub record Read (lim : Limits) (s : List ℕ) : Type 0 where

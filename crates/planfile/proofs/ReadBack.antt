@@ -93,7 +93,7 @@ module _ (lim : Limits) (small : mostBytes lim < 2 ^ 32) (list lo hi : List ℕ)
   pub plan-reads : ReadsBack lim (planOf list lo hi) list lo hi
   plan-reads = record {
     answer = sym (read-rest lim (planOf list lo hi) (rw plan-split long) marked back)
-        ∙ sym (parts-plan lim (planOf list lo hi) _ refl front checked)
+        ∙ sym (parts-plan lim (planOf list lo hi) _ refl front refl refl refl checked)
         ∙ rw plan-split (ap Plan same-counts);
     list-part = rw plan-split whole-list;
     low-part = rw plan-split whole-low;
