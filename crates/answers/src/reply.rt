@@ -6,6 +6,7 @@ use crate::request::MOST_ROOM;
 use crate::request::Request;
 use crate::request::Span;
 use crate::request::Tables;
+use crate::say::put_build_place;
 use crate::say::put_bytes;
 use crate::say::put_place;
 use crate::say::put_spot;
@@ -66,6 +67,21 @@ fn reply_write(room: &[u8], t: Tables, n: usize, out: &mut [u8], at: usize) -> u
         return at;
     }
     write_into(room, t, &mut space[0..n], out, at)
+}
+
+fn build_into(room: &[u8], list: Span, lent: &mut [u8], out: &mut [u8], at: usize) -> usize {
+    let b = merge::build(bytes_at(room, list), lent);
+    let next = text::put_number(out, at, merge::built_number(b));
+    let placed = put_build_place(out, next, merge::built_place(b));
+    put_bytes(out, placed, b" out=", lent)
+}
+
+fn reply_build(room: &[u8], list: Span, n: usize, out: &mut [u8], at: usize) -> usize {
+    let mut space = [LENT; MOST_ROOM];
+    if MOST_ROOM < n {
+        return at;
+    }
+    build_into(room, list, &mut space[0..n], out, at)
 }
 
 fn reply_read(room: &[u8], s: Span, out: &mut [u8], at: usize) -> usize {
@@ -132,6 +148,7 @@ fn reply_bytes(room: &[u8], r: Request, out: &mut [u8], at: usize) -> usize {
         Request::List(list) => reply_list(room, list, out, at),
         Request::Check(t) => reply_check(room, t, out, at),
         Request::Write(t, n) => reply_write(room, t, n, out, at),
+        Request::Build(list, n) => reply_build(room, list, n, out, at),
         Request::Read(plan) => reply_read(room, plan, out, at),
         _ => text::put(out, at, b"?"),
     }

@@ -33,6 +33,7 @@ pub(crate) enum Request {
     List(Span),
     Check(Tables),
     Write(Tables, usize),
+    Build(Span, usize),
     Read(Span),
     Open(Span, usize),
     Step(usize, bool),
@@ -119,6 +120,19 @@ fn read_write(line: &[u8], f: Fields, room: &mut [u8]) -> Request {
     Request::Write(tables, lent)
 }
 
+fn read_build(line: &[u8], f: Fields, room: &mut [u8]) -> Request {
+    if f.count != 3 {
+        return Request::Unreadable;
+    }
+    let Bytes::At(list) = bytes_of(line, f, 1, room, 0) else {
+        return Request::Unreadable;
+    };
+    let Decimal::Is(lent) = text::number(field(line, f, 2), MOST_ROOM) else {
+        return Request::Unreadable;
+    };
+    Request::Build(list, lent)
+}
+
 fn read_read(line: &[u8], f: Fields, room: &mut [u8]) -> Request {
     if f.count != 2 {
         return Request::Unreadable;
@@ -184,6 +198,9 @@ pub(crate) fn request_of(line: &[u8], room: &mut [u8]) -> Request {
     }
     if same(word, b"write") {
         return read_write(line, f, room);
+    }
+    if same(word, b"build") {
+        return read_build(line, f, room);
     }
     if same(word, b"read") {
         return read_read(line, f, room);

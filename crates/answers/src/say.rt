@@ -1,7 +1,9 @@
 // The parts of an answer line: a number, and the places that it has.
 use joblist::Place;
+use merge::BuildPlace;
 use verdict::Fault;
 use verdict::Spot;
+use verdict::Verdict;
 
 // A name and its number.
 pub(crate) fn put_value(out: &mut [u8], at: usize, name: &[u8], n: usize) -> usize {
@@ -57,5 +59,24 @@ pub(crate) fn put_spot(out: &mut [u8], at: usize, s: Spot) -> usize {
         Spot::InList(p) => put_place(out, at, p),
         Spot::AtSlot(t) => put_value(out, at, b" slot=", t),
         Spot::AtFault(f) => put_fault(out, at, f),
+    }
+}
+
+// The fault of a built pair: its number, and its place.
+fn put_rejected(out: &mut [u8], at: usize, v: Verdict) -> usize {
+    let next = put_value(out, at, b" fault=", verdict::answer_number(v));
+    match v {
+        Verdict::Yes => next,
+        Verdict::No(w) => put_spot(out, next, verdict::place_of(w)),
+    }
+}
+
+// The place of what a build is refused for.
+pub(crate) fn put_build_place(out: &mut [u8], at: usize, p: BuildPlace) -> usize {
+    match p {
+        BuildPlace::InList(p) => put_place(out, at, p),
+        BuildPlace::AtJob(t, j) => put_slot_job(out, at, t, j),
+        BuildPlace::AtSlot(t) => put_value(out, at, b" slot=", t),
+        BuildPlace::Answer(v) => put_rejected(out, at, v),
     }
 }
