@@ -1,9 +1,7 @@
 // Bytes and numbers put at a place of a buffer.
 ghost use mathlib.Core.Path.{_≡_};
-ghost use Prim.Native.Nat.{_+_, _≤_};
-ghost use lib.ListN.{length};
+ghost use Prim.Native.Nat.{_+_};
 ghost use lib.Dec.{leb};
-ghost use Rattle.basics.specs.Put.{put as placed};
 ghost use Rattle.text.specs.Place.{putIn, nextAt, NumberPut};
 
 // Whether a buffer has room for k bytes at a place.
@@ -19,22 +17,12 @@ pub(crate) fn fits(size: usize, at: usize, k: usize) -> bool
     true
 }
 
-// The bytes of s, where they fit.
-fn copy(out: &mut [u8], at: usize, s: &[u8])
-    requires { ⌜ at + length (now s) ≤ length (now out) ⌝ }
-    ensures { λ _. ⌜ now (out .exit) ≡ placed (now (out .entry)) at (now (s .entry)) ⌝ }
-{
-    for i in 0..s.len() {
-        out[at + i] = s[i];
-    }
-}
-
 // Puts bytes at a place, and hands back the next place.
 pub fn put(out: &mut [u8], at: usize, s: &[u8]) -> usize
     ensures { λ r. ⌜ (r ≡ nextAt (now (out .entry)) at (now (s .entry))) × (now (out .exit) ≡ putIn (now (out .entry)) at (now (s .entry))) ⌝ }
 {
     if fits(out.len(), at, s.len()) {
-        copy(out, at, s);
+        bytes::copy(s, &mut out[at..]);
         return at + s.len();
     }
     at
