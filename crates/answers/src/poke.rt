@@ -1,10 +1,10 @@
 // One field of the dispatcher's state, by its name: set to any value that it can hold.
 use check::same;
-use dispatch::limits::EDGES;
-use dispatch::limits::JOBS;
-use dispatch::limits::SLOTS;
 use dispatch::plan::Plan;
 use dispatch::state::State;
+use joblist::MOST_EDGES;
+use joblist::MOST_JOBS;
+use joblist::MOST_SLOTS;
 
 // The fields of the plan that a state holds.
 pub(crate) enum Part {
@@ -130,15 +130,15 @@ fn kind_of_part(p: Part) -> Kind {
         Part::L => word(1),
         Part::N => word(1),
         Part::M => word(1),
-        Part::Arrival => word(JOBS),
-        Part::Deadline => word(JOBS),
-        Part::Clo => word(JOBS),
-        Part::Chi => word(JOBS),
-        Part::Level => byte(JOBS),
-        Part::From => byte(EDGES),
-        Part::To => byte(EDGES),
-        Part::Lo => byte(SLOTS),
-        Part::Hi => byte(SLOTS),
+        Part::Arrival => word(MOST_JOBS),
+        Part::Deadline => word(MOST_JOBS),
+        Part::Clo => word(MOST_JOBS),
+        Part::Chi => word(MOST_JOBS),
+        Part::Level => byte(MOST_JOBS),
+        Part::From => byte(MOST_EDGES),
+        Part::To => byte(MOST_EDGES),
+        Part::Lo => byte(MOST_SLOTS),
+        Part::Hi => byte(MOST_SLOTS),
         Part::Unknown => word(0),
     }
 }
@@ -150,9 +150,9 @@ pub(crate) fn kind_of(f: Field) -> Kind {
         Field::Ordered => byte(1),
         Field::High => byte(1),
         Field::Halted => byte(1),
-        Field::Units => word(JOBS),
-        Field::Done => byte(JOBS),
-        Field::Cut => byte(JOBS),
+        Field::Units => word(MOST_JOBS),
+        Field::Done => byte(MOST_JOBS),
+        Field::Cut => byte(MOST_JOBS),
         Field::OfPlan(p) => kind_of_part(p),
     }
 }
@@ -165,26 +165,26 @@ fn byte_of(v: usize) -> u8 {
     (v % 256) as u8
 }
 
-fn put_word(places: &mut [u16; JOBS], i: usize, v: u16) {
-    if i < JOBS {
+fn put_word(places: &mut [u16; MOST_JOBS], i: usize, v: u16) {
+    if i < MOST_JOBS {
         places[i] = v;
     }
 }
 
-fn put_byte(places: &mut [u8; JOBS], i: usize, v: u8) {
-    if i < JOBS {
+fn put_byte(places: &mut [u8; MOST_JOBS], i: usize, v: u8) {
+    if i < MOST_JOBS {
         places[i] = v;
     }
 }
 
-fn put_edge(places: &mut [u8; EDGES], i: usize, v: u8) {
-    if i < EDGES {
+fn put_edge(places: &mut [u8; MOST_EDGES], i: usize, v: u8) {
+    if i < MOST_EDGES {
         places[i] = v;
     }
 }
 
-fn put_entry(places: &mut [u8; SLOTS], i: usize, v: u8) {
-    if i < SLOTS {
+fn put_entry(places: &mut [u8; MOST_SLOTS], i: usize, v: u8) {
+    if i < MOST_SLOTS {
         places[i] = v;
     }
 }

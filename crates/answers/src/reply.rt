@@ -110,14 +110,11 @@ fn reply_open(room: &[u8], s: Span, first: usize, out: &mut [u8], at: usize) -> 
     }
 }
 
-// The order, or the job of a refusal that has one.
+// The order, or the place of a refusal.
 fn put_order(out: &mut [u8], at: usize, a: Answer) -> usize {
     match a {
         Answer::Order(j) => put_value(out, at, b" order=", j as usize),
-        Answer::No(_) => match a.place() {
-            dispatch::answer::Place::Nowhere => at,
-            dispatch::answer::Place::Job(j) => put_value(out, at, b" job=", j as usize),
-        },
+        Answer::No(w) => put_place(out, at, dispatch::answer::place_of(w)),
     }
 }
 
@@ -125,7 +122,7 @@ fn reply_step(s: State, tick: usize, ended: bool, out: &mut [u8], at: usize) -> 
     let r = s.step((tick % 65536) as u16, ended);
     let a = r.answer;
     let state = r.state;
-    let next = text::put_number(out, at, a.number() as usize);
+    let next = text::put_number(out, at, dispatch::answer::answer_number(a));
     let placed = put_order(out, next, a);
     Replied {
         at: put_state(out, placed, state),

@@ -1,8 +1,8 @@
 // The dispatcher's state as text, for the jobs below n.
 ghost use Prim.Native.Nat.{_≤_};
 use crate::say::put_value;
-use dispatch::limits::JOBS;
 use dispatch::state::State;
+use joblist::MOST_JOBS;
 
 // A mark is shown as 0 or 1.
 fn mark(x: u8) -> usize {
@@ -24,7 +24,7 @@ fn put_item(out: &mut [u8], at: usize, j: usize, x: usize) -> usize {
     put_value(out, at, b",", x)
 }
 
-fn put_counts(out: &mut [u8], at: usize, counts: &[u16; JOBS], n: usize) -> usize
+fn put_counts(out: &mut [u8], at: usize, counts: &[u16; MOST_JOBS], n: usize) -> usize
     requires { ⌜ n ≤ 64 ⌝ }
 {
     let mut next = at;
@@ -34,7 +34,7 @@ fn put_counts(out: &mut [u8], at: usize, counts: &[u16; JOBS], n: usize) -> usiz
     next
 }
 
-fn put_marks(out: &mut [u8], at: usize, marks: &[u8; JOBS], n: usize) -> usize
+fn put_marks(out: &mut [u8], at: usize, marks: &[u8; MOST_JOBS], n: usize) -> usize
     requires { ⌜ n ≤ 64 ⌝ }
 {
     let mut next = at;
@@ -70,7 +70,7 @@ pub(crate) fn put_state(out: &mut [u8], at: usize, s: State) -> usize {
     if n < 1 {
         return text::put(out, at, b" | -");
     }
-    if JOBS < n {
+    if MOST_JOBS < n {
         return text::put(out, at, b" | -");
     }
     let next = put_values(out, at, s);
