@@ -66,9 +66,8 @@ fn earliest_deadline_first(list: &List, high: bool) -> Result<Slots, Refusal> {
             break;
         }
         let waits = |before: usize| list.jobs[before].high == high && left[before] > 0;
-        let ready = |&job: &usize| {
-            list.jobs[job].arrival <= slot && !list.predecessors(job).any(waits)
-        };
+        let ready =
+            |&job: &usize| list.jobs[job].arrival <= slot && !list.predecessors(job).any(waits);
         // min_by_key keeps the first of equals, which is the lowest job
         if let Some(job) = open.filter(ready).min_by_key(|&job| list.jobs[job].deadline) {
             table[slot] = Some(job);

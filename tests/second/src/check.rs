@@ -75,7 +75,11 @@ impl<'a> Search<'a> {
             let job = &list.jobs[number];
             let switching = number == usize::from(lo[slot]);
             // a high job that had CLO units and did not switch must have ended within them
-            if !switching && had[number] >= job.clo { job.clo } else { job.chi }
+            if !switching && had[number] >= job.clo {
+                job.clo
+            } else {
+                job.chi
+            }
         };
         let need = (0..list.jobs.len()).map(need).collect();
         Search { list, table: hi, first_slot: slot + 1, switch: Some(slot), had, need }

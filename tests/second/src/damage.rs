@@ -87,7 +87,11 @@ fn edge(random: &mut Random, list: &List, bytes: &mut [u8]) {
     if random.chance(30) && at + 4 <= bytes.len() {
         // two edges out of order, or the same twice
         let (first, second) = bytes[at..at + 4].split_at_mut(2);
-        if random.chance(50) { first.swap_with_slice(second) } else { second.copy_from_slice(first) }
+        if random.chance(50) {
+            first.swap_with_slice(second)
+        } else {
+            second.copy_from_slice(first)
+        }
         return;
     }
     let last = list.jobs.len() - 1;

@@ -1,7 +1,7 @@
 //! "The dispatcher": its state, opening and stepping.
 
 use crate::list::{MOST_EDGES, MOST_JOBS, MOST_SLOTS, MOST_UNITS};
-use crate::plan::{self, IDLE, Plan};
+use crate::plan::{self, Plan, IDLE};
 use crate::refusal::Refusal;
 
 /// Everything a step looks at. Marks are bytes: 0 is clear, anything else is set.
@@ -176,7 +176,11 @@ impl State {
     fn order(&self) -> u8 {
         let slot = usize::from(self.slot);
         let named = if self.high == 0 { self.lo[slot] } else { self.hi[slot] };
-        if named != IDLE && self.may_run(usize::from(named)) { named } else { IDLE }
+        if named != IDLE && self.may_run(usize::from(named)) {
+            named
+        } else {
+            IDLE
+        }
     }
 
     fn may_run(&self, job: usize) -> bool {

@@ -11,12 +11,8 @@ use crate::requests;
 use crate::script::Script;
 
 /// What must come up besides every kind of verdict, so that the comparison means something.
-const BESIDES: [&str; 4] = [
-    "yes, with edges",
-    "no, with edges",
-    "yes, with dead entries",
-    "no, with dead entries",
-];
+const BESIDES: [&str; 4] =
+    ["yes, with edges", "no, with edges", "yes, with dead entries", "no, with dead entries"];
 
 struct Execution<'a> {
     list: &'a List,
@@ -149,7 +145,8 @@ pub fn compare(seed: u64, count: usize) -> (Script, Result<(), String>) {
         let request = requests::check_of(&case);
         script.ask(&request);
         if !agree(&case) {
-            outcome = Err(format!("the executions do not bear out {:?}: {request}", case.verdict()));
+            outcome =
+                Err(format!("the executions do not bear out {:?}: {request}", case.verdict()));
         }
         for kind in kinds_of(&case) {
             *came.entry(kind).or_default() += 1;

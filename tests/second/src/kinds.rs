@@ -24,7 +24,7 @@ const BUILDS: [usize; 6] = [0, 20, 21, 22, 23, 24];
 /// The rarest kind comes once in a thousand draws.
 const DRAWS: usize = 3000;
 
-/// A list without a cycle and two tables of its length.
+/// A list and two tables of its length.
 pub struct Case {
     pub list: List,
     pub lo: Vec<u8>,
@@ -84,9 +84,25 @@ pub fn case(random: &mut Random) -> Case {
 /// A small list for the builder, with each of its answers as the aim.
 pub fn list_to_build(random: &mut Random) -> List {
     let wanted = random.pick(&BUILDS);
-    let answer = |list: &List| {
-        let mut out = vec![0; list.plan_size()];
-        build::build(&list.bytes(), &mut out).map_or_else(|no| no.number, |()| 0)
+    let answer = |list: &List| match built(list) {
+        Ok(_) => 0,
+        Err(no) => no.number,
     };
-    draw_until(&mut || lists::small(random), |list| answer(list) == wanted)
+    draw_until(&mut || lists::small(random), |list| answer(list) == wanted && telling(list))
+}
+
+/// Jobs enough to get into each other's way.
+fn telling(list: &List) -> bool {
+    list.jobs.len() > 2 && list.jobs.iter().any(|job| job.chi > job.clo)
+}
+
+/// A list of any size that the builder makes a plan of.
+pub fn list_that_builds(random: &mut Random) -> List {
+    draw_until(&mut || lists::any(random), |list| built(list).is_ok())
+}
+
+/// The whole plan that the builder makes.
+pub fn built(list: &List) -> Result<Vec<u8>, Refusal> {
+    let mut out = vec![0; list.plan_size()];
+    build::build(&list.bytes(), &mut out).map(|()| out)
 }

@@ -84,11 +84,8 @@ pub struct Head {
 impl Head {
     /// Rows 1, 2 and 3, of which row 3 looks at the range of L alone: the jobs are not read yet.
     pub fn read(bytes: &[u8]) -> Result<Head, Refusal> {
-        let head = Head {
-            jobs: word_at(bytes, 0),
-            edges: word_at(bytes, 2),
-            length: word_at(bytes, 4),
-        };
+        let head =
+            Head { jobs: word_at(bytes, 0), edges: word_at(bytes, 2), length: word_at(bytes, 4) };
         if !(1..=MOST_JOBS).contains(&head.jobs) {
             return Err(Refusal::bare(1));
         }

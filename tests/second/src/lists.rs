@@ -27,14 +27,14 @@ pub fn small(random: &mut Random) -> List {
 /// Mostly small, some of middle size, few of the largest size.
 pub fn any(random: &mut Random) -> List {
     let shape = match random.below(1000) {
-        0..4 => Shape { jobs: MOST_JOBS, edges: MOST_EDGES, length: MOST_SLOTS, budget: 12 },
-        4..10 => Shape {
+        0..4 => Shape { jobs: MOST_JOBS, edges: MOST_EDGES, length: MOST_SLOTS, budget: 3 },
+        4..14 => Shape {
             jobs: random.within(1, MOST_JOBS),
             edges: random.below(40),
             length: random.within(200, MOST_SLOTS),
             budget: 10,
         },
-        10..120 => Shape {
+        14..250 => Shape {
             jobs: random.within(2, 12),
             edges: random.below(8),
             length: random.within(8, 40),
@@ -56,8 +56,8 @@ pub fn with_a_ring(random: &mut Random) -> List {
         list.edges.push(if back { (next, job) } else { (job, next) });
         list.jobs[job].high |= of_one_level;
     }
+    // an edge of the ring may be there twice
     list.edges.sort_unstable();
-    list.edges.dedup();
     list
 }
 
@@ -106,7 +106,7 @@ fn edges(random: &mut Random, jobs: &[Job], count: usize) -> Vec<(usize, usize)>
     edges
 }
 
-/// Tables for a list without a cycle: from sound to arbitrary, every entry a job or idle.
+/// Tables for a list that is not refused: from sound to arbitrary, every entry a job or idle.
 pub fn tables(random: &mut Random, list: &List) -> (Vec<u8>, Vec<u8>) {
     let (mut lo, mut hi) = match random.below(10) {
         0..6 => build::pair(list).unwrap_or_else(|_| placed(random, list)),
@@ -119,11 +119,28 @@ pub fn tables(random: &mut Random, list: &List) -> (Vec<u8>, Vec<u8>) {
         let slot = random.below(table.len());
         table[slot] = entry(random, list);
     }
+    if random.chance(40) {
+        add_low_entries(random, list, &mut hi);
+    }
     (lo, hi)
 }
 
+/// Names low jobs in idle slots of table HI, where none is too early, too late or misplaced.
+fn add_low_entries(random: &mut Random, list: &List, hi: &mut [u8]) {
+    let low: Vec<usize> = (0..list.jobs.len()).filter(|&job| !list.jobs[job].high).collect();
+    for entry in hi.iter_mut().filter(|entry| **entry == IDLE) {
+        if !low.is_empty() {
+            *entry = random.pick(&low) as u8;
+        }
+    }
+}
+
 fn entry(random: &mut Random, list: &List) -> u8 {
-    if random.chance(20) { IDLE } else { random.below(list.jobs.len()) as u8 }
+    if random.chance(20) {
+        IDLE
+    } else {
+        random.below(list.jobs.len()) as u8
+    }
 }
 
 fn arbitrary(random: &mut Random, list: &List) -> Vec<u8> {

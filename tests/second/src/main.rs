@@ -12,6 +12,7 @@ mod kinds;
 mod list;
 mod lists;
 mod plan;
+mod pokes;
 mod random;
 mod refusal;
 mod requests;
@@ -92,5 +93,9 @@ fn compare_all(files: &[&str]) -> Result<(), String> {
         failed += counts.1;
     }
     println!("{passed} passed, {failed} failed");
-    if failed == 0 { Ok(()) } else { Err("the answers differ".to_string()) }
+    if failed == 0 {
+        Ok(())
+    } else {
+        Err("the answers differ".to_string())
+    }
 }

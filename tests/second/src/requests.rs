@@ -1,4 +1,5 @@
-//! Makes requests, and what they should answer, until every refusal of document 01 came.
+//! Makes requests of every kind, with what they should answer. How a line is read, and what the
+//! protocol leaves open, stands in `desk`.
 
 use crate::damage;
 use crate::desk::{hex, LENT, MOST_BYTES, MOST_LINE, MOST_ROOM, UNREADABLE};
@@ -6,6 +7,7 @@ use crate::kinds::{self, Case};
 use crate::list::{MOST_EDGES, MOST_JOBS, MOST_SLOTS};
 use crate::lists::{self, Shape};
 use crate::plan;
+use crate::pokes;
 use crate::random::Random;
 use crate::runs;
 use crate::script::Script;
@@ -25,6 +27,7 @@ pub fn make(seed: u64, count: usize) -> (Script, Result<(), String>) {
     runs::before_any_open(&mut script);
     beyond_the_limits(&mut script, &mut random);
     longest_lines(&mut script);
+    unreadable::each_once(&mut script);
     while script.len() < count {
         scene(&mut script, &mut random);
     }
@@ -48,9 +51,9 @@ fn scene(script: &mut Script, random: &mut Random) {
         34..44 => write_request(script, random),
         44..66 => build_request(script, random),
         66..82 => script.ask(&format!("read {}", hex(&plan_bytes(random)))),
-        82..90 => unreadable::request(script, random),
-        90..95 => runs::run(script, random),
-        _ => runs::poked_run(script, random),
+        82..89 => unreadable::request(script, random),
+        89..93 => runs::run(script, random),
+        _ => pokes::poked_run(script, random),
     }
 }
 
@@ -58,9 +61,9 @@ fn scene(script: &mut Script, random: &mut Random) {
 fn list_bytes(random: &mut Random) -> Vec<u8> {
     match random.below(10) {
         0..2 => lists::any(random).bytes(),
-        2..5 => lists::with_a_ring(random).bytes(),
-        _ => {
-            let list = lists::any(random);
+        2..4 => lists::with_a_ring(random).bytes(),
+        place => {
+            let list = if place < 6 { lists::with_a_ring(random) } else { lists::any(random) };
             damage::list_bytes(random, &list)
         }
     }
@@ -76,6 +79,11 @@ fn case(random: &mut Random) -> Case {
     if random.chance(60) {
         return kinds::case(random);
     }
+    if random.chance(10) {
+        let list = lists::with_a_ring(random);
+        let (lo, hi) = (vec![0; list.length], vec![0; list.length]);
+        return Case { list, lo, hi };
+    }
     let list = lists::any(random);
     let (lo, hi) = lists::tables(random, &list);
     Case { list, lo, hi }
@@ -85,10 +93,12 @@ fn case(random: &mut Random) -> Case {
 fn list_and_tables(random: &mut Random) -> (String, usize) {
     let Case { list, mut lo, mut hi } = case(random);
     let bytes = if random.chance(8) { damage::list_bytes(random, &list) } else { list.bytes() };
-    if random.chance(8) {
+    // one table, the other, or both: mostly neither
+    let hurt = random.below(12);
+    if hurt == 0 || hurt == 1 {
         damage::table(random, &list, &mut lo);
     }
-    if random.chance(8) {
+    if hurt == 0 || hurt == 2 {
         damage::table(random, &list, &mut hi);
     }
     (format!("{} {} {}", hex(&bytes), hex(&lo), hex(&hi)), list.plan_size())
@@ -108,7 +118,7 @@ fn write_request(script: &mut Script, random: &mut Random) {
 fn build_request(script: &mut Script, random: &mut Random) {
     let aimed = random.chance(60);
     let list = if aimed { kinds::list_to_build(random) } else { lists::any(random) };
-    let bytes = if random.chance(6) { damage::list_bytes(random, &list) } else { list.bytes() };
+    let bytes = if random.chance(6) { list_bytes(random) } else { list.bytes() };
     let room = room(random, list.plan_size());
     script.ask(&format!("build {} {room}", hex(&bytes)));
 }

@@ -75,6 +75,15 @@ const ODD: [&str; 7] = [
     "poke lo 1023 000255",
 ];
 
+pub fn each_once(script: &mut Script) {
+    for line in WRONG {
+        script.ask_unreadable(line.as_bytes());
+    }
+    for line in ODD {
+        script.ask(line);
+    }
+}
+
 pub fn request(script: &mut Script, random: &mut Random) {
     match random.below(10) {
         0..4 => script.ask_unreadable(random.pick(&WRONG).as_bytes()),

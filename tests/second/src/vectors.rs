@@ -53,10 +53,7 @@ fn checks() -> Vec<(String, String)> {
     let cases = [
         (format!("check {A} 010100ffff 0101000000"), "0"),
         (format!("check {A} 010100ffff 000000ffff"), "10 slot=5 job=0 switch=2"),
-        (
-            format!("check {A_EDGE} 010100ffff ffffffffff"),
-            "12 slot=0 job=1 pred=0 switch=65535",
-        ),
+        (format!("check {A_EDGE} 010100ffff ffffffffff"), "12 slot=0 job=1 pred=0 switch=65535"),
         (format!("check {A} 01010000ff 0101000000"), "0"),
         (format!("check {budgets_3_3} 0101000000 ffffffffff"), "0"),
     ];
@@ -67,9 +64,7 @@ fn checks() -> Vec<(String, String)> {
 fn steps() -> Vec<(String, String)> {
     let fresh = "units=0,0 done=0,0 cut=0,0";
     let state = |slot, tick, ordered, halted, units: &str| {
-        format!(
-            " | slot={slot} tick={tick} ordered={ordered} high=0 halted={halted} {units}"
-        )
+        format!(" | slot={slot} tick={tick} ordered={ordered} high=0 halted={halted} {units}")
     };
     let mut cases = vec![
         (format!("open {P1} 65535"), "0".to_string() + &state(4, 65534, 255, 0, fresh)),
