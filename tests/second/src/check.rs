@@ -5,13 +5,12 @@ use crate::plan::IDLE;
 use crate::refusal::{Refusal, NO_SWITCH};
 
 /// Checking a list and two tables, all as bytes.
-pub fn check(list: &[u8], lo: &[u8], hi: &[u8]) -> Result<List, Refusal> {
+pub fn check(list: &[u8], lo: &[u8], hi: &[u8]) -> Result<(), Refusal> {
     let list = list::read(list)?;
     if lo.len() != list.length || hi.len() != list.length {
         return Err(Refusal::bare(43));
     }
-    tables(&list, lo, hi)?;
-    Ok(list)
+    tables(&list, lo, hi)
 }
 
 /// Rows 45 and 10 to 12, on tables of L bytes.

@@ -79,7 +79,8 @@ impl Desk {
     }
 }
 
-fn number<T>(answer: &Result<T, Refusal>) -> String {
+/// The number and its place, 0 for yes.
+pub fn number<T>(answer: &Result<T, Refusal>) -> String {
     answer.as_ref().map_or_else(Refusal::to_string, |_| "0".to_string())
 }
 

@@ -2,6 +2,7 @@
 
 use std::collections::BTreeMap;
 
+use crate::desk;
 use crate::kinds::{self, Case, VERDICTS};
 use crate::list::{Job, List};
 use crate::plan::IDLE;
@@ -145,8 +146,8 @@ pub fn compare(seed: u64, count: usize) -> (Script, Result<(), String>) {
         let request = requests::check_of(&case);
         script.ask(&request);
         if !agree(&case) {
-            outcome =
-                Err(format!("the executions do not bear out {:?}: {request}", case.verdict()));
+            let verdict = desk::number(&case.verdict());
+            outcome = Err(format!("the executions do not bear out {verdict}: {request}"));
         }
         for kind in kinds_of(&case) {
             *came.entry(kind).or_default() += 1;

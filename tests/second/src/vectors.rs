@@ -27,9 +27,10 @@ fn builds() -> Vec<(String, String)> {
     let p4 = "02000000030000000000030001000300010000000200020002000000";
     let p5 = "02000000040000000000040002000400010000000200020002000000";
     let p7 = "020001000500000000000500010003000100000003000200020000000100";
-    // (1, 3, high, 1, 1), (0, 5, high, 1, 3): LO 1 0 - - - and HI 1 1 1 0 -, which fail the check
+    // (1, 3, high, 1, 1), (0, 5, high, 1, 3): LO 1 0 - - - and HI 1 1 1 0 -
     let failing = "02000000050000000100030001000100010000000500010003000100";
     vec![
+        // P1 to P7
         (format!("build {A} 46"), format!("0 out={P1}")),
         (format!("build {p2} 44"), format!("0 out={p2}010001ff010000002400000054545031")),
         (format!("build {p3} 42"), format!("0 out={p3}0001010000002200000054545031")),
@@ -41,6 +42,7 @@ fn builds() -> Vec<(String, String)> {
         ),
         (format!("build {p7} 48"), refused("8 edge=0", 48)),
         (format!("list {p7}"), "8 edge=0".to_string()),
+        // a pair that is built, and fails the check
         (format!("build {failing} 46"), refused("24 fault=10 slot=3 job=0 switch=0", 46)),
         // the whole plan is read, and written, as it stands on the paper
         (format!("read {P1}"), format!("0 list={A} lo=010100ffff hi=0101000000")),
@@ -51,6 +53,7 @@ fn builds() -> Vec<(String, String)> {
 fn checks() -> Vec<(String, String)> {
     let budgets_3_3 = "02000000050000000000050003000300010000000300020002000000";
     let cases = [
+        // P1's pair, P8, P9, P10, and the case that has no number
         (format!("check {A} 010100ffff 0101000000"), "0"),
         (format!("check {A} 010100ffff 000000ffff"), "10 slot=5 job=0 switch=2"),
         (format!("check {A_EDGE} 010100ffff ffffffffff"), "12 slot=0 job=1 pred=0 switch=65535"),
