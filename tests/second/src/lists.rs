@@ -125,7 +125,8 @@ pub fn tables(random: &mut Random, list: &List) -> (Vec<u8>, Vec<u8>) {
     (lo, hi)
 }
 
-/// Names low jobs in idle slots of table HI, where none is too early, too late or misplaced.
+/// Names low jobs in the idle slots of table HI. No place there is a fault for them, and the
+/// dispatcher must leave out those that may not run.
 fn add_low_entries(random: &mut Random, list: &List, hi: &mut [u8]) {
     let low: Vec<usize> = (0..list.jobs.len()).filter(|&job| !list.jobs[job].high).collect();
     for entry in hi.iter_mut().filter(|entry| **entry == IDLE) {
