@@ -1,0 +1,28 @@
+-- `State::order` meets its contract: a named job is below n, and each edge starts below n.
+-- Assumes nothing.
+use native.Mathlib.Omega.{arith}
+use borrow.Author.Needs.{needs}
+use Rattle.dispatch.specs.Machine.{orderOf}
+use Rattle.dispatch.proofs.Facts.{plan-facts, named-top}
+use Rattle.dispatch.proofs.state.State.order.Statement.{statement}
+use Rattle.dispatch.proofs.state.State.order.Tie as tie
+
+cast-m : tie.Need-cast-m
+cast-m c = search needs
+
+cast-named : tie.Need-cast-named
+cast-named c = search needs
+
+named-requires : tie.Need-named-requires
+named-requires c κs = omega (arith, plan-facts _ _ (c .before .before .before .pre .0) .len-top)
+
+choice-requires : tie.Need-choice-requires
+choice-requires c κs = let f = plan-facts _ _ (c .before .before .before .before .before .before .before .before .before .before .before .before .pre .0) in
+    (named-top _ (c .before .before .before .before .before .before .before .before .before .before .before .before .args .t1) (c .before .before .before .before .before .before .before .before .before .before .before .before .pre .0) (c .before .before .before .before .before .before .before .before .before .before .before .before .pre .1) _ (c .before .before .before .before .before .before .before .before .named .ensures), (f .m-top, λ e l. omega (arith, f .n-top, f .from-at e l)))
+
+returns : tie.Need-returns
+unfolding orderOf
+returns c = simp (c .choice .ensures, c .before .before .before .before .before .before .before .before .before .named .ensures)
+
+pub order-spec : {M : Type 1} → statement M
+order-spec = tie.close (tie.spec cast-m cast-named named-requires choice-requires returns)
