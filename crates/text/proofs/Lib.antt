@@ -1,0 +1,4 @@
+pub mod Digits
+pub mod Counting
+pub mod Copying
+pub mod Back

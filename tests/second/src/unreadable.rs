@@ -1,0 +1,120 @@
+//! Lines that cannot be read, and readable ones that look odd.
+
+use crate::desk::hex;
+use crate::lists;
+use crate::random::Random;
+use crate::script::Script;
+
+/// Lines with one thing wrong each.
+const WRONG: [&str; 55] = [
+    "",
+    " ",
+    "?",
+    "0",
+    "list",
+    "list ",
+    "list --",
+    "list -00",
+    "list 0",
+    "list 000",
+    "list 0A",
+    "list 0g",
+    "list 0x00",
+    "list 00\r",
+    "list\t00",
+    "lists 00",
+    "List 00",
+    "check - -",
+    "check - - - -",
+    "write - - - 4097",
+    "write - - - 65536",
+    "write - - -",
+    "write - - - ",
+    "build - 4097",
+    "build - 99999999999999999999999",
+    "build - -1",
+    "build - -",
+    "build - +8",
+    "build - 8.0",
+    "build - 0x8",
+    "build - 8 8",
+    "read",
+    "read - -",
+    "open - 65536",
+    "open -",
+    "open - 1 2",
+    "step 1",
+    "step 1 2",
+    "step 1 -1",
+    "step 1 0 0",
+    "step 65536 0",
+    "step -1 0",
+    "step 1 true",
+    "step \u{0} 0",
+    "step \u{661} 0",
+    "poke tick 0",
+    "poke tick 1 0",
+    "poke ticks 0 0",
+    "poke halted 0 256",
+    "poke units 64 0",
+    "poke from 256 0",
+    "poke lo 1024 0",
+    "poke hi 0 256",
+    "poke  0 0",
+    "poke slot 65536 0",
+];
+
+/// Odd, and to be read all the same. The index of a single field is 0, however it is written.
+const ODD: [&str; 7] = [
+    "list -",
+    "check - - -",
+    "build 00 004096",
+    "write - - - 0",
+    "step 007 01",
+    "poke tick 000 0000065535",
+    "poke lo 1023 000255",
+];
+
+pub fn each_once(script: &mut Script) {
+    for line in WRONG {
+        script.ask_unreadable(line.as_bytes());
+    }
+    for line in ODD {
+        script.ask(line);
+    }
+}
+
+pub fn request(script: &mut Script, random: &mut Random) {
+    match random.below(10) {
+        0..4 => script.ask_unreadable(random.pick(&WRONG).as_bytes()),
+        4 => script.ask(random.pick(&ODD)),
+        5 => script.ask_unreadable(&any_bytes(random)),
+        _ => {
+            let request = format!("build {} 60", hex(&lists::small(random).bytes()));
+            script.ask_unreadable(&spoilt(random, &request));
+        }
+    }
+}
+
+fn any_bytes(random: &mut Random) -> Vec<u8> {
+    let bytes = (0..random.below(40)).map(|_| random.below(256) as u8);
+    bytes.filter(|&byte| byte != b'\n').collect()
+}
+
+/// A good `build` request with one thing spoilt, somewhere in it.
+fn spoilt(random: &mut Random, request: &str) -> Vec<u8> {
+    let mut line = request.as_bytes().to_vec();
+    let digits = "build ".len()..line.len() - " 60".len();
+    let digit = random.within(digits.start, digits.end - 1);
+    match random.below(6) {
+        0 => {
+            line.remove(digit);
+        }
+        1 => line[digit] = random.pick(b"ABCDEFGg/:@`-. \t\x00\x80\xff"),
+        2 => line.insert(random.pick(&[0, "build ".len(), digits.end, line.len()]), b' '),
+        3 => line.truncate(digits.end),
+        4 => line.extend(random.pick(&[b" 0", b" -", b"\r\r", b"00", b" 6"])),
+        _ => line[random.below("build".len())] ^= b' ',
+    }
+    line
+}

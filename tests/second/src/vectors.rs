@@ -1,0 +1,99 @@
+//! The cases that document 01 works on paper, and one for 24, with answers written by hand.
+
+use crate::script::Script;
+
+/// List A: job 0 (0, 5, high, 1, 3), job 1 (0, 3, low, 2, 2).
+const A: &str = "02000000050000000000050001000300010000000300020002000000";
+/// List A with edge (0, 1).
+const A_EDGE: &str = "020001000500000000000500010003000100000003000200020000000001";
+/// The whole plan of P1.
+const P1: &str = "02000000050000000000050001000300010000000300020002000000\
+                  010100ffff01010000002600000054545031";
+
+fn cases() -> Vec<(String, String)> {
+    let mut cases = builds();
+    cases.extend(checks());
+    cases.extend(steps());
+    cases
+}
+
+fn refused(no: &str, room: usize) -> String {
+    format!("{no} out={}", "aa".repeat(room))
+}
+
+fn builds() -> Vec<(String, String)> {
+    let p2 = "02000000040000000000040001000300010000000300020002000000";
+    let p3 = "02000000030000000000030001000300010000000300020002000000";
+    let p4 = "02000000030000000000030001000300010000000200020002000000";
+    let p5 = "02000000040000000000040002000400010000000200020002000000";
+    let p7 = "020001000500000000000500010003000100000003000200020000000100";
+    // (1, 3, high, 1, 1), (0, 5, high, 1, 3): LO 1 0 - - - and HI 1 1 1 0 -
+    let failing = "02000000050000000100030001000100010000000500010003000100";
+    vec![
+        // P1 to P7
+        (format!("build {A} 46"), format!("0 out={P1}")),
+        (format!("build {p2} 44"), format!("0 out={p2}010001ff010000002400000054545031")),
+        (format!("build {p3} 42"), format!("0 out={p3}0001010000002200000054545031")),
+        (format!("build {p4} 42"), refused("22 slot=0", 42)),
+        (format!("build {p5} 44"), refused("22 slot=0", 44)),
+        (
+            format!("build {A_EDGE} 48"),
+            format!("0 out={A_EDGE}000101ffff000000ffff2800000054545031"),
+        ),
+        (format!("build {p7} 48"), refused("8 edge=0", 48)),
+        (format!("list {p7}"), "8 edge=0".to_string()),
+        // a pair that is built, and fails the check
+        (format!("build {failing} 46"), refused("24 fault=10 slot=3 job=0 switch=0", 46)),
+        // the whole plan is read, and written, as it stands on the paper
+        (format!("read {P1}"), format!("0 list={A} lo=010100ffff hi=0101000000")),
+        (format!("write {A} 010100ffff 0101000000 48"), format!("0 out={P1}aaaa")),
+    ]
+}
+
+fn checks() -> Vec<(String, String)> {
+    let budgets_3_3 = "02000000050000000000050003000300010000000300020002000000";
+    let cases = [
+        // P1's pair, P8, P9, P10, and the case that has no number
+        (format!("check {A} 010100ffff 0101000000"), "0"),
+        (format!("check {A} 010100ffff 000000ffff"), "10 slot=5 job=0 switch=2"),
+        (format!("check {A_EDGE} 010100ffff ffffffffff"), "12 slot=0 job=1 pred=0 switch=65535"),
+        (format!("check {A} 01010000ff 0101000000"), "0"),
+        (format!("check {budgets_3_3} 0101000000 ffffffffff"), "0"),
+    ];
+    cases.map(|(request, answer)| (request, answer.to_string())).to_vec()
+}
+
+/// P11, then P12: each of its three ticks is tried on a dispatcher opened for it.
+fn steps() -> Vec<(String, String)> {
+    let fresh = "units=0,0 done=0,0 cut=0,0";
+    let state = |slot, tick, ordered, halted, units: &str| {
+        format!(" | slot={slot} tick={tick} ordered={ordered} high=0 halted={halted} {units}")
+    };
+    let mut cases = vec![
+        (format!("open {P1} 65535"), "0".to_string() + &state(4, 65534, 255, 0, fresh)),
+        ("step 65535 0".to_string(), "0 order=1".to_string() + &state(0, 65535, 1, 0, fresh)),
+        (
+            "step 0 0".to_string(),
+            "0 order=1".to_string() + &state(1, 0, 1, 0, "units=0,1 done=0,0 cut=0,0"),
+        ),
+    ];
+    for (tick, no, halted) in [(32767, 31, 1), (32768, 33, 0), (65535, 33, 0)] {
+        cases.push((format!("open {P1} 0"), "0".to_string() + &state(4, 65535, 255, 0, fresh)));
+        cases.push(("step 0 0".to_string(), "0 order=1".to_string() + &state(0, 0, 1, 0, fresh)));
+        cases.push((format!("step {tick} 0"), no.to_string() + &state(0, 0, 1, halted, fresh)));
+    }
+    cases
+}
+
+/// The cases as a script, and whether this program answers each as the paper does.
+pub fn compare() -> (Script, Result<(), String>) {
+    let mut script = Script::new();
+    let mut outcome = Ok(());
+    for (request, by_hand) in cases() {
+        let own = script.ask_by_hand(&request, &by_hand);
+        if own != by_hand {
+            outcome = Err(format!("{request}\n  on paper: {by_hand}\n  answered: {own}"));
+        }
+    }
+    (script, outcome)
+}
