@@ -94,34 +94,37 @@ module _ (lim : Limits) (s lo hi : List ℕ) (i : Input lim s lo hi) where
   unfolding edgesOk edgeOk allOf
   edges-good =
       all-each _ _ (λ e l. rw (
-      entries-at (lim .edges) (edgeFrom s (jobs s)) (edges s) (good .mostEdges) e l,
-      entries-at (lim .edges) (edgeTo s (jobs s)) (edges s) (good .mostEdges) e l,
-      lt-ltb _ _ (good .edge e l .from),
-      lt-ltb _ _ (good .edge e l .to)))
+        entries-at (lim .edges) (edgeFrom s (jobs s)) (edges s) (good .mostEdges) e l,
+        entries-at (lim .edges) (edgeTo s (jobs s)) (edges s) (good .mostEdges) e l,
+        lt-ltb _ _ (good .edge e l .from),
+        lt-ltb _ _ (good .edge e l .to),
+      ))
 
   jobs-good : jobsOk lim (entries (lim .jobs) (level s) (jobs s)) (entries (lim .jobs) (ordinary s) (jobs s)) (entries (lim .jobs) (high s) (jobs s)) (jobs s) ≡ true
   unfolding jobsOk jobOk allOf
   jobs-good =
       all-each _ _ (λ j l. rw (
-      entries-at (lim .jobs) (level s) (jobs s) (good .mostJobs) j l,
-      entries-at (lim .jobs) (ordinary s) (jobs s) (good .mostJobs) j l,
-      entries-at (lim .jobs) (high s) (jobs s) (good .mostJobs) j l,
-      le-leb _ _ (good .job j l .known),
-      le-leb (ordinary s j) (lim .budget) (omega (arith, good .job j l .rising, good .job j l .most)),
-      le-leb _ _ (good .job j l .most)))
+        entries-at (lim .jobs) (level s) (jobs s) (good .mostJobs) j l,
+        entries-at (lim .jobs) (ordinary s) (jobs s) (good .mostJobs) j l,
+        entries-at (lim .jobs) (high s) (jobs s) (good .mostJobs) j l,
+        le-leb _ _ (good .job j l .known),
+        le-leb (ordinary s j) (lim .budget) (omega (arith, good .job j l .rising, good .job j l .most)),
+        le-leb _ _ (good .job j l .most),
+      ))
 
   pub fields-sound : planOk lim (fieldsOf lim s lo hi) ≡ true
   unfolding fieldsOf planOk sizesOk allOf
   fields-sound =
       rw (
-      le-leb _ _ (good .oneSlot),
-      le-leb _ _ (good .mostSlots),
-      le-leb _ _ (good .oneJob),
-      le-leb _ _ (good .mostJobs),
-      le-leb _ _ (good .mostEdges),
-      tables-good,
-      edges-good,
-      jobs-good)
+        le-leb _ _ (good .oneSlot),
+        le-leb _ _ (good .mostSlots),
+        le-leb _ _ (good .oneJob),
+        le-leb _ _ (good .mostJobs),
+        le-leb _ _ (good .mostEdges),
+        tables-good,
+        edges-good,
+        jobs-good,
+      )
 
 -- an accepted plan's state is sound
 pub opened-sound : (lim : Limits) (s : List ℕ) (first : ℕ) (w : Shape) → readOf lim s ≡ IsPlan w → stateOk lim (openOf lim s first .state) ≡ true

@@ -14,11 +14,10 @@ use mathlib.Core.List.{List}
 use mathlib.Core.Logic.{inl, inr}
 use mathlib.Core.Path.{_≡_, _∙_}
 use Prim.Native.Nat.{ℕ, _-_, _≤_, _<_}
-use Rattle.late.specs.Table.{entry, units, allIdle, held}
+use Rattle.late.specs.Table.{entry, allIdle, held}
 use Rattle.late.specs.declared.Late.the-variants.{Fine}
-use Rattle.late.specs.Late.{chosen, edfAt, lateAnswer, moved, lateTable, firstUnit, firstUnits, lateOf, takes, tlo, thi}
+use Rattle.late.specs.Late.{chosen, lateAnswer, lateTable, lateOf}
 use Rattle.late.specs.Meaning.{filled, after, Chosen, Serves, LateTable}
-use Rattle.late.proofs.Units.{one, units-step, units-zero}
 use Rattle.late.proofs.Earliest.{edf-long}
 use Rattle.late.proofs.EdfTable.{edf-entry, edf-choice}
 use Rattle.late.proofs.InTime.{edf-exact}
@@ -62,8 +61,8 @@ module _ (lim : Limits) (s : List ℕ) (acc : Accepted lim s) (few : jobs s ≤ 
         record {
           kept = λ j l. moved-keeps s few lim acc j l (filled s v) (slots s) size (omega arith);
           exact = λ j l.
-            moved-keeps s few lim acc j l (filled s v) (slots s) size (omega arith)
-            ∙ edf-exact s v few (filled s v) chosen-at fine-filled j l (deadline-in-frame lim s acc j l);
+              moved-keeps s few lim acc j l (filled s v) (slots s) size (omega arith)
+              ∙ edf-exact s v few (filled s v) chosen-at fine-filled j l (deadline-in-frame lim s acc j l);
           arrived = λ x h e. moved-window lim s acc few v (filled s v) size chosen-at fine-filled x h (ltb-true _ _ e) .0;
           inTime = λ x h e. moved-window lim s acc few v (filled s v) size chosen-at fine-filled x h (ltb-true _ _ e) .1;
         }
