@@ -1,9 +1,9 @@
 -- The fields of a plan that the reader accepts: they are read where they stand, and the state made of them is sound.
 -- Assumes nothing.
 use Prim.Native.Nat.{ℕ, _+_, _≤_, _<_}
-use mathlib.Core.Path.{_≡_, refl, sym, ap, _∙_}
-use mathlib.Core.Logic.{_⊎_, inl, inr}
-use mathlib.Core.Bool.{Bool, true, false}
+use mathlib.Core.Path.{_≡_, refl, ap, _∙_}
+use mathlib.Core.Logic.{inl, inr}
+use mathlib.Core.Bool.{Bool, true}
 use mathlib.Core.List.{List}
 use native.Mathlib.Nat.{add-zero}
 use native.Mathlib.Omega.{arith}
@@ -17,23 +17,22 @@ use Rattle.basics.specs.Limits.{Limits, firstEdition}
 use Rattle.basics.specs.Marks.{idle}
 use Rattle.joblist.specs.Fields.{jobs, edges, slots, jobAt, edgeAt, listBytes, arrival, deadline, ordinary, high, level, edgeFrom, edgeTo}
 use Rattle.joblist.specs.Accepted.{Accepted}
-use Rattle.joblist.proofs.Accepted.{accepted, list-length}
+use Rattle.joblist.proofs.Accepted.{accepted}
 use Rattle.verdict.proofs.Entries.{getD-any}
 use Rattle.verdict.specs.Demand.{Input, GoodTable}
 use Rattle.planfile.specs.Plan.{listOf, lowOf, highOf}
 use Rattle.planfile.specs.Answer.{readOf}
-use Rattle.planfile.specs.declared.ReadAnswer.{ReadAnswer}
 use Rattle.planfile.specs.declared.ReadAnswer.the-variants.{Plan as IsPlan, No}
 use Rattle.planfile.specs.declared.ReadWhy.{ReadWhy}
 use Rattle.planfile.specs.declared.Shape.{Shape}
 use Rattle.planfile.proofs.Accepted.{read-yes, pair-yes}
 use Rattle.dispatch.specs.declared.plan.Plan.{Plan}
 use Rattle.dispatch.specs.declared.state.State.{State}
-use Rattle.dispatch.specs.Scan.{sizesOk, byteOk, slotOk, tablesOk, edgeOk, edgesOk, jobOk, jobsOk}
-use Rattle.dispatch.specs.Open.{entries, fieldsOf, openedOf, openOf}
-use Rattle.dispatch.specs.Machine.{planOk, stateOk, freshOf, noPlan, noState, stepOf, says}
 use Rattle.dispatch.specs.declared.answer.Answer.the-variants.{No as Refused}
 use Rattle.dispatch.specs.declared.answer.Why.the-variants.{BadState}
+use Rattle.dispatch.specs.Scan.{sizesOk, byteOk, slotOk, tablesOk, edgeOk, edgesOk, jobOk, jobsOk}
+use Rattle.dispatch.specs.Open.{entries, fieldsOf, openOf}
+use Rattle.dispatch.specs.Machine.{planOk, stateOk, freshOf, noPlan, noState, stepOf, says}
 use Rattle.dispatch.specs.Numbers.{answerNumber}
 use Rattle.dispatch.specs.Runs.{Given, Each, answersOf}
 use Rattle.dispatch.proofs.Steps.{step-bad}

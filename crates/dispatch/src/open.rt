@@ -23,8 +23,8 @@ pub struct Opened {
 
 // The 16 bits at byte `at` of each of n jobs.
 fn words(list: &[u8], at: usize, n: usize) -> [u16; MOST_JOBS]
-    requires { ⌜ (at ≤ 8) × (n ≤ 64) × (jobAt n ≤ length (now list)) ⌝ }
-    ensures { λ r. ⌜ r ≡ entries 64 (λ j. u16At (now (list .entry)) (jobAt j + at)) n ⌝ }
+    requires { ⌜ (at ≤ 8) × (n ≤ firstEdition .jobs) × (jobAt n ≤ length (now list)) ⌝ }
+    ensures { λ r. ⌜ r ≡ entries (firstEdition .jobs) (λ j. u16At (now (list .entry)) (jobAt j + at)) n ⌝ }
 {
     let mut out = [0u16; MOST_JOBS];
     for j in 0..n {
@@ -35,8 +35,8 @@ fn words(list: &[u8], at: usize, n: usize) -> [u16; MOST_JOBS]
 
 // The level of each of n jobs.
 fn levels(list: &[u8], n: usize) -> [u8; MOST_JOBS]
-    requires { ⌜ (n ≤ 64) × (jobAt n ≤ length (now list)) ⌝ }
-    ensures { λ r. ⌜ r ≡ entries 64 (level (now (list .entry))) n ⌝ }
+    requires { ⌜ (n ≤ firstEdition .jobs) × (jobAt n ≤ length (now list)) ⌝ }
+    ensures { λ r. ⌜ r ≡ entries (firstEdition .jobs) (level (now (list .entry))) n ⌝ }
 {
     let mut out = [0u8; MOST_JOBS];
     for j in 0..n {
@@ -47,8 +47,8 @@ fn levels(list: &[u8], n: usize) -> [u8; MOST_JOBS]
 
 // Byte `at` of each of m edges after n jobs: where it starts, or where it ends.
 fn ends(list: &[u8], at: usize, n: usize, m: usize) -> [u8; MOST_EDGES]
-    requires { ⌜ (at ≤ 1) × (n ≤ 64) × (m ≤ 256) × (listBytes n m ≤ length (now list)) ⌝ }
-    ensures { λ r. ⌜ r ≡ entries 256 (λ e. getD (now (list .entry)) (edgeAt n e + at) 0) m ⌝ }
+    requires { ⌜ (at ≤ 1) × (n ≤ firstEdition .jobs) × (m ≤ firstEdition .edges) × (listBytes n m ≤ length (now list)) ⌝ }
+    ensures { λ r. ⌜ r ≡ entries (firstEdition .edges) (λ e. getD (now (list .entry)) (edgeAt n e + at) 0) m ⌝ }
 {
     let mut out = [0u8; MOST_EDGES];
     for e in 0..m {
@@ -59,8 +59,8 @@ fn ends(list: &[u8], at: usize, n: usize, m: usize) -> [u8; MOST_EDGES]
 
 // A table of n slots.
 fn table(entry: &[u8], n: usize) -> [u8; MOST_SLOTS]
-    requires { ⌜ (n ≤ 1024) × (n ≤ length (now entry)) ⌝ }
-    ensures { λ r. ⌜ r ≡ entries 1024 (λ t. getD (now (entry .entry)) t 0) n ⌝ }
+    requires { ⌜ (n ≤ firstEdition .slots) × (n ≤ length (now entry)) ⌝ }
+    ensures { λ r. ⌜ r ≡ entries (firstEdition .slots) (λ t. getD (now (entry .entry)) t 0) n ⌝ }
 {
     let mut out = [0u8; MOST_SLOTS];
     for t in 0..n {
@@ -71,7 +71,7 @@ fn table(entry: &[u8], n: usize) -> [u8; MOST_SLOTS]
 
 // A plan's fields, from its list and its tables.
 fn fields(list: &[u8], lo: &[u8], hi: &[u8]) -> Plan
-    requires { ⌜ (jobs (now list) ≤ 64) × (edges (now list) ≤ 256) × (slots (now list) ≤ 1024) × (listBytes (jobs (now list)) (edges (now list)) ≤ length (now list))
+    requires { ⌜ (jobs (now list) ≤ firstEdition .jobs) × (edges (now list) ≤ firstEdition .edges) × (slots (now list) ≤ firstEdition .slots) × (listBytes (jobs (now list)) (edges (now list)) ≤ length (now list))
         × (slots (now list) ≤ length (now lo)) × (slots (now list) ≤ length (now hi)) ⌝ }
     ensures { λ r. ⌜ r ≡ fieldsOf firstEdition (now (list .entry)) (now (lo .entry)) (now (hi .entry)) ⌝ }
 {

@@ -1,4 +1,5 @@
 // The late tables. All functions here are inner ones: they are called on lists that the list's check accepts, and on tables of L bytes.
+use joblist::IDLE;
 use joblist::MOST_JOBS;
 use joblist::arrival_of;
 use joblist::deadline_of;
@@ -20,14 +21,15 @@ ghost use Rattle.basics.specs.Find.{lowest, highest};
 ghost use Rattle.basics.specs.Turns.{turns};
 ghost use Rattle.basics.specs.Units.{unitsOf, oneMore};
 ghost use Rattle.basics.specs.Limits.{firstEdition};
+ghost use Rattle.basics.specs.Marks.{idle};
 ghost use Rattle.joblist.specs.Fields.{jobs, edges, slots, arrival, deadline, ordinary, edgeIn};
 ghost use Rattle.joblist.specs.Accepted.{Accepted};
 ghost use Rattle.late.specs.Table.{entry, units, held, empty, waits, marked};
 ghost use Rattle.late.specs.Late.{orElse, ready, lateAt, takes, edfAt, lateAnswer, holdsNext, target, move, moved, lateTable, firstUnits};
 ghost use Rattle.late.specs.declared.Late.the-variants.{Fine};
 
-// A slot with no job.
-pub const IDLE: u8 = 255;
+// No job is chosen.
+const NO_JOB: usize = IDLE as usize;
 
 // A job that is late, with the slot; or none.
 pub enum Late {
@@ -117,10 +119,10 @@ fn ready_at(
 
 // Of the choice so far and a ready job j: j where nothing is chosen yet or its deadline is earlier.
 fn sooner(s: &[u8], best: usize, j: usize) -> usize
-    requires { ⌜ Accepted firstEdition (now s) × (j < jobs (now s)) × ((best ≡ 255 → ⊥) → best < jobs (now s)) ⌝ }
+    requires { ⌜ Accepted firstEdition (now s) × (j < jobs (now s)) × ((best ≡ idle → ⊥) → best < jobs (now s)) ⌝ }
     ensures { λ r. ⌜ r ≡ preferred (λ _. true) (deadline (now (s .entry))) best j ⌝ }
 {
-    if best == 255 {
+    if best == NO_JOB {
         return j;
     }
     if deadline_of(s, j) < deadline_of(s, best) {
@@ -135,7 +137,7 @@ fn choose(s: &[u8], undone: &[bool; MOST_JOBS], t: usize) -> usize
     ensures { λ r. ⌜ r ≡ earliest (ready (now (s .entry)) (marked (now (undone .entry))) t) (deadline (now (s .entry))) (jobs (now (s .entry))) ⌝ }
 {
     let waiting = waiting_of(s, undone);
-    let mut best: usize = 255;
+    let mut best: usize = NO_JOB;
     for j in 0..jobs_of(s) {
         if ready_at(s, undone, &waiting, t, j) {
             best = sooner(s, best, j);

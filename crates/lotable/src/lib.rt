@@ -1,10 +1,10 @@
 // Table LO. All functions here are inner ones: they are called on lists that the list's check accepts, and on tables of L bytes.
+use joblist::IDLE;
 use joblist::MOST_JOBS;
 use joblist::arrival_of;
 use joblist::jobs_of;
 use joblist::ordinary_of;
 use joblist::wide;
-use late::IDLE;
 use late::one_more;
 use late::waiting_of;
 use late::wide16;

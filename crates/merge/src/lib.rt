@@ -1,10 +1,10 @@
 // The builder: the merge method, slot for slot, and the plan of the pair that it makes.
 use hitable::table_hi;
+use joblist::IDLE;
 use joblist::ListAnswer;
 use joblist::MOST_SLOTS;
 use joblist::Place;
 use joblist::Why;
-use late::IDLE;
 use late::Late;
 use lotable::Clash;
 use planfile::TRAILER_BYTES;

@@ -18,8 +18,8 @@ pub mod count;
 mod faults;
 mod slot;
 
-// A table byte that names no job.
-pub const IDLE: usize = 255;
+// The idle mark, as wide as an entry is read.
+pub(crate) const IDLE: usize = joblist::IDLE as usize;
 
 // The pairs of jobs.
 pub(crate) const PAIRS: usize = MOST_JOBS * MOST_JOBS;
