@@ -1,6 +1,6 @@
--- The worked lines of both documents for the builder, on bytes, computed.
+-- The examples of document 000 and the smallest refused lists, on bytes, computed. P1 to P7 stand in the table of all worked lines.
 -- Assumes nothing.
-use mathlib.Core.List.{List, [], _∷_, _++_}
+use mathlib.Core.List.{List, [], _∷_}
 use mathlib.Core.Path.{_≡_, refl}
 use Prim.Native.Nat.{ℕ}
 use lib.ListN.{replicate}
@@ -17,62 +17,43 @@ use Rattle.frame.specs.Search.{faultAt, faultOf, firstFault, lateJob, needsAfte
 use Rattle.joblist.specs.Answer.{bodyAnswer, countsAnswer, fieldsAnswer, frontAnswer, goodBudgets, goodPair, goodTimes, largest, listAnswer, rising, within}
 use Rattle.joblist.specs.Cycle.{cyclic, walk}
 use Rattle.joblist.specs.Fields.{edgeIn}
-use Rattle.joblist.specs.declared.Why.the-variants.{LowToHigh}
 use Rattle.verdict.specs.Answer.{checkOf, oddEntry, tablesAnswer}
 use Rattle.verdict.specs.declared.Fault.the-variants.{Late}
 use Rattle.verdict.specs.declared.Objection.the-variants.{Bad}
 use Rattle.verdict.specs.declared.Verdict.the-variants.{No as Objects}
 use Rattle.planfile.specs.Plan.{planOf}
-use Rattle.planfile.specs.Cases.{planA}
 use Rattle.late.specs.Table.{waits}
 use Rattle.late.specs.Late.{ready as isReady, lateAt, takes, unfinished, chosen, edfAt, lateAnswer, target, move, moved, lateTable, firstUnit, firstUnits, lateOf, tlo, thi}
 use Rattle.lotable.specs.TableLo.{unplaced, fits, later, pick, tablesAt, clashIn, clashOf, tableLo}
 use Rattle.hitable.specs.TableHi.{isHigh, turn, owing, hiAt, tableHi}
-use Rattle.merge.specs.declared.BuildWhy.the-variants.{OfList, Room, LowLate, HighLate, Both, Early, Rejected}
+use Rattle.merge.specs.declared.BuildWhy.the-variants.{Room, LowLate, HighLate, Both, Early, Rejected}
 use Rattle.merge.specs.declared.Built.the-variants.{Plan, No}
 use Rattle.merge.specs.Build.{pairOf, builtLo, builtHi, mergePlan, buildOf, outAfter}
-use Rattle.merge.specs.Cases.{listA, withEdge, example1, example2, example3, figures, small20, small21, small22, small23, small24, bothLate, stands, i}
+use Rattle.merge.specs.Cases.{example2, example3, figures, small20, small21, small22, small23, small24, bothLate, stands, i}
 
 -- the list builds a plan of k bytes with these tables
 abbrev Builds : List ℕ → ℕ → List ℕ → List ℕ → Type 0
 Builds s k lo hi = (buildOf firstEdition s k ≡ Plan k) × (builtLo s ≡ lo) × (builtHi s ≡ hi)
 
--- P1 with its whole plan, also in a longer buffer, and 46
-pub p1 : Builds (listA 5 5 3) 46 (1 ∷ 1 ∷ 0 ∷ i ∷ i ∷ []) (1 ∷ 1 ∷ 0 ∷ 0 ∷ 0 ∷ [])
-    × (mergePlan (listA 5 5 3) ≡ planA)
-    × (outAfter firstEdition (listA 5 5 3) (replicate 48 0xAA) ≡ planA ++ 0xAA ∷ 0xAA ∷ [])
-    × (buildOf firstEdition (listA 5 5 3) 45 ≡ No Room)
-    × (outAfter firstEdition (listA 5 5 3) (replicate 45 0xAA) ≡ replicate 45 0xAA)
-unfolding buildOf outAfter mergePlan pairOf builtHi planOf put waits isReady lateAt takes unfinished chosen edfAt lateAnswer target move moved lateTable firstUnit firstUnits lateOf tlo thi unplaced fits later pick tablesAt clashIn clashOf tableLo isHigh turn owing hiAt tableHi countBelow entriesBefore lowest highest earliest checkOf tablesAnswer oddEntry listAnswer frontAnswer countsAnswer within bodyAnswer fieldsAnswer goodTimes goodBudgets largest rising goodPair cyclic walk anyBelow turns inTurn edgeIn u16At firstFault searchFrom switches switchAt trySwitch reachesBudget scan faultAt faultOf owed lateJob step slotWith outran runs ready waitsFor nextMode find needsAfter oneMore switchTo
-p1 = ((refl, refl, refl), refl, refl, refl, refl)
-
--- P2 to P7
-pub p2-to-p7 : Builds (listA 4 4 3) 44 (1 ∷ 0 ∷ 1 ∷ i ∷ []) (1 ∷ 0 ∷ 0 ∷ 0 ∷ [])
-    × Builds (listA 3 3 3) 42 (0 ∷ 1 ∷ 1 ∷ []) (0 ∷ 0 ∷ 0 ∷ [])
-    × (buildOf firstEdition (listA 3 3 2) 42 ≡ No (Both 0))
-    × (buildOf firstEdition example1 44 ≡ No (Both 0))
-    × Builds (withEdge 0 1) 48 (0 ∷ 1 ∷ 1 ∷ i ∷ i ∷ []) (0 ∷ 0 ∷ 0 ∷ i ∷ i ∷ [])
-    × (buildOf firstEdition (withEdge 1 0) 48 ≡ No (OfList (LowToHigh 0)))
-unfolding buildOf outAfter mergePlan pairOf builtHi planOf put waits isReady lateAt takes unfinished chosen edfAt lateAnswer target move moved lateTable firstUnit firstUnits lateOf tlo thi unplaced fits later pick tablesAt clashIn clashOf tableLo isHigh turn owing hiAt tableHi countBelow entriesBefore lowest highest earliest checkOf tablesAnswer oddEntry listAnswer frontAnswer countsAnswer within bodyAnswer fieldsAnswer goodTimes goodBudgets largest rising goodPair cyclic walk anyBelow turns inTurn edgeIn u16At firstFault searchFrom switches switchAt trySwitch reachesBudget scan faultAt faultOf owed lateJob step slotWith outran runs ready waitsFor nextMode find needsAfter oneMore switchTo
-p2-to-p7 = ((refl, refl, refl), (refl, refl, refl), refl, refl, (refl, refl, refl), refl)
-
 -- document 000: Example 2; Example 3 with its temporary tables
-pub examples : Builds example2 104 (5 ∷ 5 ∷ 1 ∷ 0 ∷ 2 ∷ 2 ∷ 3 ∷ 3 ∷ 4 ∷ 4 ∷ i ∷ i ∷ i ∷ i ∷ []) (5 ∷ 5 ∷ 5 ∷ 0 ∷ 0 ∷ 0 ∷ 0 ∷ 0 ∷ 4 ∷ 4 ∷ 4 ∷ 0 ∷ 0 ∷ 0 ∷ [])
+abbrev Examples : Type 0
+Examples =
+    Builds example2 104 (5 ∷ 5 ∷ 1 ∷ 0 ∷ 2 ∷ 2 ∷ 3 ∷ 3 ∷ 4 ∷ 4 ∷ i ∷ i ∷ i ∷ i ∷ []) (5 ∷ 5 ∷ 5 ∷ 0 ∷ 0 ∷ 0 ∷ 0 ∷ 0 ∷ 4 ∷ 4 ∷ 4 ∷ 0 ∷ 0 ∷ 0 ∷ [])
     × (tlo example3 ≡ i ∷ 3 ∷ 4 ∷ 4 ∷ i ∷ i ∷ i ∷ i ∷ [])
     × (lateTable example3 1 (replicate 8 i) ≡ i ∷ i ∷ 2 ∷ 2 ∷ 1 ∷ 1 ∷ 0 ∷ 0 ∷ [])
     × (thi example3 ≡ i ∷ i ∷ 2 ∷ i ∷ 1 ∷ i ∷ 0 ∷ i ∷ [])
     × Builds example3 82 (3 ∷ 4 ∷ 2 ∷ 4 ∷ 1 ∷ 0 ∷ i ∷ i ∷ []) (3 ∷ 4 ∷ 2 ∷ 2 ∷ 1 ∷ 1 ∷ 0 ∷ 0 ∷ [])
-unfolding buildOf outAfter mergePlan pairOf builtHi planOf put waits isReady lateAt takes unfinished chosen edfAt lateAnswer target move moved lateTable firstUnit firstUnits lateOf tlo thi unplaced fits later pick tablesAt clashIn clashOf tableLo isHigh turn owing hiAt tableHi countBelow entriesBefore lowest highest earliest checkOf tablesAnswer oddEntry listAnswer frontAnswer countsAnswer within bodyAnswer fieldsAnswer goodTimes goodBudgets largest rising goodPair cyclic walk anyBelow turns inTurn edgeIn u16At firstFault searchFrom switches switchAt trySwitch reachesBudget scan faultAt faultOf owed lateJob step slotWith outran runs ready waitsFor nextMode find needsAfter oneMore switchTo
-examples = ((refl, refl, refl), refl, refl, refl, (refl, refl, refl))
 
 -- its figures 5 and 6: moving late, and the first CLO units
-pub figures-5-6 : (lateTable figures 1 (replicate 16 i) ≡ i ∷ i ∷ i ∷ i ∷ 0 ∷ 1 ∷ 1 ∷ 1 ∷ 2 ∷ 2 ∷ 1 ∷ 0 ∷ 0 ∷ 0 ∷ 0 ∷ 0 ∷ [])
+abbrev Figures : Type 0
+Figures =
+    (lateTable figures 1 (replicate 16 i) ≡ i ∷ i ∷ i ∷ i ∷ 0 ∷ 1 ∷ 1 ∷ 1 ∷ 2 ∷ 2 ∷ 1 ∷ 0 ∷ 0 ∷ 0 ∷ 0 ∷ 0 ∷ [])
     × (thi figures ≡ i ∷ i ∷ i ∷ i ∷ 0 ∷ 1 ∷ 1 ∷ i ∷ 2 ∷ 2 ∷ i ∷ 0 ∷ i ∷ i ∷ i ∷ i ∷ [])
-unfolding buildOf outAfter mergePlan pairOf builtHi planOf put waits isReady lateAt takes unfinished chosen edfAt lateAnswer target move moved lateTable firstUnit firstUnits lateOf tlo thi unplaced fits later pick tablesAt clashIn clashOf tableLo isHigh turn owing hiAt tableHi countBelow entriesBefore lowest highest earliest checkOf tablesAnswer oddEntry listAnswer frontAnswer countsAnswer within bodyAnswer fieldsAnswer goodTimes goodBudgets largest rising goodPair cyclic walk anyBelow turns inTurn edgeIn u16At firstFault searchFrom switches switchAt trySwitch reachesBudget scan faultAt faultOf owed lateJob step slotWith outran runs ready waitsFor nextMode find needsAfter oneMore switchTo
-figures-5-6 = (refl, refl)
 
 -- 20 to 24, each with its place; 46 before 20, and 20 before 21
-pub refusals : (buildOf firstEdition small20 28 ≡ No (LowLate 1 0))
+abbrev Refusals : Type 0
+Refusals =
+    (buildOf firstEdition small20 28 ≡ No (LowLate 1 0))
     × (buildOf firstEdition small20 27 ≡ No Room)
     × (buildOf firstEdition small21 28 ≡ No (HighLate 1 0))
     × (buildOf firstEdition bothLate 38 ≡ No (LowLate 1 0))
@@ -82,10 +63,17 @@ pub refusals : (buildOf firstEdition small20 28 ≡ No (LowLate 1 0))
     × (outAfter firstEdition small24 (replicate 46 0xAA) ≡ replicate 46 0xAA)
     × (builtLo small24 ≡ 1 ∷ 0 ∷ i ∷ i ∷ i ∷ [])
     × (builtHi small24 ≡ 1 ∷ 1 ∷ 1 ∷ 0 ∷ i ∷ [])
-unfolding buildOf outAfter mergePlan pairOf builtHi planOf put waits isReady lateAt takes unfinished chosen edfAt lateAnswer target move moved lateTable firstUnit firstUnits lateOf tlo thi unplaced fits later pick tablesAt clashIn clashOf tableLo isHigh turn owing hiAt tableHi countBelow entriesBefore lowest highest earliest checkOf tablesAnswer oddEntry listAnswer frontAnswer countsAnswer within bodyAnswer fieldsAnswer goodTimes goodBudgets largest rising goodPair cyclic walk anyBelow turns inTurn edgeIn u16At firstFault searchFrom switches switchAt trySwitch reachesBudget scan faultAt faultOf owed lateJob step slotWith outran runs ready waitsFor nextMode find needsAfter oneMore switchTo
-refusals = (refl, refl, refl, refl, refl, refl, refl, refl, refl, refl)
 
 -- a unit stays where THI, as first made, held it
-pub first-made : Builds stands 42 (0 ∷ 1 ∷ i ∷ []) (0 ∷ 1 ∷ 0 ∷ [])
+abbrev FirstMade : Type 0
+FirstMade =
+    Builds stands 42 (0 ∷ 1 ∷ i ∷ []) (0 ∷ 1 ∷ 0 ∷ [])
+
+pub worked : Examples × Figures × Refusals × FirstMade
 unfolding buildOf outAfter mergePlan pairOf builtHi planOf put waits isReady lateAt takes unfinished chosen edfAt lateAnswer target move moved lateTable firstUnit firstUnits lateOf tlo thi unplaced fits later pick tablesAt clashIn clashOf tableLo isHigh turn owing hiAt tableHi countBelow entriesBefore lowest highest earliest checkOf tablesAnswer oddEntry listAnswer frontAnswer countsAnswer within bodyAnswer fieldsAnswer goodTimes goodBudgets largest rising goodPair cyclic walk anyBelow turns inTurn edgeIn u16At firstFault searchFrom switches switchAt trySwitch reachesBudget scan faultAt faultOf owed lateJob step slotWith outran runs ready waitsFor nextMode find needsAfter oneMore switchTo
-first-made = (refl, refl, refl)
+worked = (
+  ((refl, refl, refl), refl, refl, refl, (refl, refl, refl)),
+  (refl, refl),
+  (refl, refl, refl, refl, refl, refl, refl, refl, refl, refl),
+  (refl, refl, refl),
+)

@@ -1,4 +1,4 @@
--- Lists worked on paper, in bytes: those of document 01, the examples of document 000, and the smallest lists known for 20 to 24.
+-- Lists in bytes: the examples of document 000, and the smallest lists known for 20 to 24.
 -- Assumes nothing.
 use Prim.Native.Nat.{ℕ}
 use mathlib.Core.List.{List, [], _∷_, _++_}
@@ -17,17 +17,7 @@ low = 0
 abbrev pub high : ℕ
 high = 1
 
--- list A with other deadlines, and with an edge
-abbrev pub listA : ℕ → ℕ → ℕ → List ℕ
-listA l d e = head 2 0 l ++ job 0 d high 1 3 ++ job 0 e low 2 2
-
-abbrev pub withEdge : ℕ → ℕ → List ℕ
-withEdge p q = head 2 1 5 ++ job 0 5 high 1 3 ++ job 0 3 low 2 2 ++ p ∷ q ∷ []
-
--- document 000
-abbrev pub example1 : List ℕ
-example1 = head 2 0 4 ++ job 0 4 high 2 4 ++ job 0 2 low 2 2
-
+-- Examples 2 and 3 of document 000; its Example 1 is P5
 abbrev pub example2 : List ℕ
 example2 =
     head 6 0 14 ++ job 0 14 high 1 8 ++ job 0 3 low 1 1 ++ job 0 8 low 2 2 ++ job 0 8 low 2 2 ++ job 8 13 high 2 3 ++ job 0 12 high 2 3
