@@ -16,9 +16,7 @@ use mathlib.Core.Logic.{inl, inr}
 use mathlib.Core.Path.{_≡_, sym, _∙_}
 use Prim.Native.Nat.{ℕ, zero, suc, _+_, _-_, _≤_, _<_}
 use Rattle.late.specs.Table.{entry, units, waits}
-use Rattle.late.specs.declared.Late.{Late}
-use Rattle.late.specs.declared.Late.the-variants.{Fine, At}
-use Rattle.late.specs.Late.{orElse, ready, lateAt, takes, unfinished, chosen, edfAt, lateIn, lateAnswer}
+use Rattle.late.specs.Late.{ready, takes, unfinished, chosen, edfAt}
 use Rattle.basics.proofs.Choice.{Choice, earliest-is}
 use Rattle.late.proofs.Units.{one, units-step, units-zero, units-same}
 use Rattle.late.proofs.Earliest.{edf-long}

@@ -3,20 +3,19 @@
 use Rattle.joblist.specs.Fields.{jobs, edges, slots, deadline, edgeFrom, edgeTo, edgeIn}
 use Rattle.basics.proofs.Tests.{and-left, and-right, not-both}
 use Rattle.basics.specs.Below.{anyBelow}
-use Rattle.basics.specs.Turns.{turns, inTurn}
 use lib.Dec.{eqb, ltb}
 use borrow.Author.Tests.{eq-eqb, lt-ltb, ltb-false, eqb-true}
-use native.Mathlib.Decide.{ℕ-discrete, decLt}
+use native.Mathlib.Decide.{decLt}
 use native.Mathlib.Omega.{arith}
 use mathlib.Core.Bool.{Bool, true, false, cond, _&&_}
 use mathlib.Core.List.{List}
 use mathlib.Core.Path.{_≡_, refl}
-use Prim.Native.Nat.{ℕ, zero, suc, _+_, _-_, _≤_, _<_}
+use Prim.Native.Nat.{ℕ, _+_, _≤_, _<_}
 use Rattle.late.specs.Table.{entry, units, waits}
 use Rattle.late.specs.declared.Late.{Late}
 use Rattle.late.specs.declared.Late.the-variants.{Fine, At}
 use Rattle.late.specs.Late.{orElse, lateAt, takes, unfinished, chosen, lateIn, lateAnswer}
-use Rattle.basics.proofs.Below.{Found, any-found, any-hit}
+use Rattle.basics.proofs.Below.{any-found, any-hit}
 use Rattle.late.proofs.General.{turns-each}
 use Rattle.late.proofs.EdfTable.{units-later, owed, free, edf-most}
 

@@ -20,7 +20,7 @@ use Rattle.basics.proofs.Find.{find-some}
 use Rattle.basics.proofs.Tests.{of-false, not-both}
 use Rattle.late.specs.Table.{entry, units, held, empty}
 use Rattle.late.specs.Late.{holdsNext, target, move, moved}
-use Rattle.late.proofs.Units.{one, units-set}
+use Rattle.late.proofs.Units.{units-set}
 use Rattle.late.proofs.Moving.{move-held, move-idle, moved-zero, moved-step, moved-long, target-most}
 
 -- the lowest number that passes is past those that do not

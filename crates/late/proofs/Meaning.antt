@@ -14,11 +14,10 @@ use mathlib.Core.List.{List}
 use mathlib.Core.Logic.{inl, inr}
 use mathlib.Core.Path.{_≡_, _∙_}
 use Prim.Native.Nat.{ℕ, _-_, _≤_, _<_}
-use Rattle.late.specs.Table.{entry, units, allIdle, held}
+use Rattle.late.specs.Table.{entry, allIdle, held}
 use Rattle.late.specs.declared.Late.the-variants.{Fine}
-use Rattle.late.specs.Late.{chosen, edfAt, lateAnswer, moved, lateTable, firstUnit, firstUnits, lateOf, takes, tlo, thi}
+use Rattle.late.specs.Late.{chosen, lateAnswer, lateTable, lateOf}
 use Rattle.late.specs.Meaning.{filled, after, Chosen, Serves, LateTable}
-use Rattle.late.proofs.Units.{one, units-step, units-zero}
 use Rattle.late.proofs.Earliest.{edf-long}
 use Rattle.late.proofs.EdfTable.{edf-entry, edf-choice}
 use Rattle.late.proofs.InTime.{edf-exact}

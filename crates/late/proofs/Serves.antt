@@ -16,7 +16,7 @@ use mathlib.Core.Bool.{Bool, true, false, _&&_}
 use mathlib.Core.List.{List}
 use mathlib.Core.Path.{_≡_, refl, ap, _∙_}
 use Prim.Native.Nat.{ℕ, zero, suc, _+_, _-_, _≤_, _<_}
-use Rattle.late.specs.Table.{entry, units, allIdle, held, empty}
+use Rattle.late.specs.Table.{entry, held, empty}
 use Rattle.late.specs.declared.Late.the-variants.{Fine}
 use Rattle.late.specs.Late.{chosen, lateAnswer, holdsNext, target, move, moved}
 use Rattle.late.proofs.EdfTable.{arrived}

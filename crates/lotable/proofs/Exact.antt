@@ -3,7 +3,7 @@
 use Rattle.joblist.specs.Accepted.{Accepted}
 use Rattle.basics.specs.Limits.{Limits}
 use Rattle.joblist.specs.Fields.{jobs, slots, ordinary, high}
-use Rattle.basics.specs.Find.{find, foundOr, lowest}
+use Rattle.basics.specs.Find.{lowest}
 use Rattle.basics.specs.Marks.{idle}
 use lib.Dec.{eqb, ltb}
 use lib.Seq.{getD-set-same, getD-set-other}
@@ -12,17 +12,14 @@ use borrow.Author.Tests.{ne-eqb, ltb-true, ltb-false}
 use native.Mathlib.Decide.{ℕ-discrete}
 use native.Mathlib.Omega.{arith}
 use native.Mathlib.Numerals.{add-one}
-use mathlib.Core.Option.{Option, some, none}
 use mathlib.Core.Bool.{Bool, true, false, cond}
 use mathlib.Core.List.{List}
 use mathlib.Core.Logic.{_⊎_, inl, inr}
 use mathlib.Core.Path.{_≡_, refl, sym, ap₂, _∙_}
-use Prim.Native.Nat.{ℕ, zero, suc, _+_, _-_, _≤_, _<_}
-use Rattle.basics.proofs.Find.{find-some}
-use Rattle.basics.proofs.Tests.{truth}
+use Prim.Native.Nat.{ℕ, zero, suc, _+_, _≤_, _<_}
 use Rattle.late.specs.Table.{entry, units, allIdle, held, waits}
 use Rattle.late.specs.declared.Late.the-variants.{Fine as OnTime}
-use Rattle.late.specs.Late.{lateOf, tlo, thi}
+use Rattle.late.specs.Late.{lateOf}
 use Rattle.late.proofs.Units.{one, units-step, units-zero, units-set, units-set-at}
 use Rattle.late.proofs.First.{tlo-long, thi-long}
 use Rattle.late.proofs.Kept.{late-units}

@@ -1,2 +1,4 @@
 pub mod Build
 pub mod Numbers
+pub mod Meaning
+pub mod Cases
