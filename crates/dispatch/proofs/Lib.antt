@@ -1,3 +1,4 @@
+pub mod General
 pub mod Marks
 pub mod Facts
 pub mod Book

@@ -36,7 +36,8 @@ use Rattle.dispatch.specs.Machine.{planOk, stateOk, freshOf, noPlan, noS
 use Rattle.dispatch.specs.Numbers.{answerNumber}
 use Rattle.dispatch.specs.Runs.{Given, Each, answersOf}
 use Rattle.dispatch.proofs.Steps.{step-bad}
-use Rattle.dispatch.proofs.Sound.{all-each, fresh-sound, never-37}
+use Rattle.dispatch.proofs.Sound.{fresh-sound, never-37}
+use Rattle.dispatch.proofs.General.{all-each}
 use Rattle.dispatch.proofs.Entries.{entries-same, entries-at}
 
 -- what the code reads is what the definition says

@@ -16,13 +16,8 @@ use Rattle.dispatch.specs.declared.tick.Tick.the-variants.{Next, Same, L
 use Rattle.dispatch.specs.Tick.{difference, tickOf}
 use Rattle.dispatch.specs.Machine.{stateOk, bookOf, moveOf, openFrameOf, withSlot, withLast, orderOf, goOf, endOf, nextOf, onTick, stepOf, says}
 use Rattle.dispatch.specs.Runs.{Given, Each, answersBy, stateBy, answersOf, stateOf, laterGiven, laterState}
+use Rattle.dispatch.proofs.General.{pick-map}
 use Rattle.dispatch.proofs.Did.{refused-has, Did, refused, taken, did}
-
--- the choice between two values of a function
-pick-map : {A B : Type 0} (f : A → B) (b : Bool) {p q : B} (x y : A) → p ≡ f x → q ≡ f y → pick b p q ≡ f (pick b x y)
-unfolding pick
-pick-map f true x y h k = h
-pick-map f false x y h k = k
 
 -- a tick d later on a state d later says the same
 pub tick-later : (d last tick : ℕ) → last < 65536 → tick < 65536 → tickOf ((last + d) % 65536) ((tick + d) % 65536) ≡ tickOf last tick

@@ -1,16 +1,14 @@
 -- A step keeps a sound state sound; a fresh state of a sound plan is sound; so no run on it ever answers 37.
 -- Assumes nothing.
-use Prim.Native.Nat.{ℕ, zero, suc, _+_, _-_, _≤_, _<_}
-use mathlib.Core.Path.{_≡_, refl, sym, ap, subst, _∙_}
+use Prim.Native.Nat.{ℕ, _+_, _-_, _≤_, _<_}
+use mathlib.Core.Path.{_≡_, refl}
 use mathlib.Core.Bool.{Bool, true, false}
 use mathlib.Core.List.{List, [], _∷_}
 use native.Mathlib.Omega.{arith}
-use lib.ListN.{length, getD, set, replicate}
-use lib.Seq.{getD-set-same, getD-set-other, set-out}
-use lib.Dec.{eqb, ltb}
-use borrow.Author.Tests.{ltb-true, ltb-false, leb-true, le-leb, eqb-true, eqb-false}
+use lib.ListN.{getD, replicate}
+use lib.Dec.{ltb}
+use borrow.Author.Tests.{ltb-true, leb-true, le-leb}
 use Rattle.basics.specs.Choice.{pick}
-use Rattle.basics.specs.Below.{allBelow}
 use Rattle.basics.specs.Limits.{Limits}
 use Rattle.basics.proofs.Tests.{not-both}
 use Rattle.basics.proofs.Choice.{pick-both}
@@ -23,30 +21,9 @@ use Rattle.dispatch.specs.Scan.{byteOk, unitsOk, bump, choiceIn}
 use Rattle.dispatch.specs.Machine.{planOk, stateOk, bookOf, moveOf, openFrameOf, withSlot, withLast, orderOf, goOf, freshOf, stepOf}
 use Rattle.dispatch.specs.Numbers.{answerNumber}
 use Rattle.dispatch.specs.Runs.{Given, Each, answersBy, answersOf}
+use Rattle.dispatch.proofs.General.{all-each, set-each, zeros-at}
 use Rattle.dispatch.proofs.Facts.{plan-facts, state-facts, state-sound, named-ok, job-below}
 use Rattle.dispatch.proofs.Did.{refused-has, is-bad, is-halted, is-same, is-stale, is-lost, has-no-job, is-past, Did, refused, taken, Booked, was-idle, was-job, did}
-
--- a test that holds at each number below n
-pub all-each : (f : ℕ → Bool) (n : ℕ) → ((i : ℕ) → i < n → f i ≡ true) → allBelow f n ≡ true
-unfolding allBelow
-all-each f zero h = refl
-all-each f (suc n) h = rw (all-each f n (λ i l. h i (omega arith))) (h n (omega arith))
-
--- what each entry of a list has, each has after one is set to what has it
-pub set-each : (P : ℕ → Type 0) (l : List ℕ) (j v i : ℕ) → P v → P (getD l i 0) → P (getD (set l j v) i 0)
-set-each P l j v i a b = go (eqb i j) refl (ltb j (length l)) refl
-  where
-    go : (x : Bool) → eqb i j ≡ x → (y : Bool) → ltb j (length l) ≡ y → P (getD (set l j v) i 0)
-    go false p y q = subst P (sym (getD-set-other l j i v 0 (eqb-false i j p))) b
-    go true p true q =
-        subst P (sym (ap (λ k. getD (set l j v) k 0) (eqb-true i j p) ∙ getD-set-same l j v 0 (ltb-true j (length l) q))) a
-    go true p false q = subst P (sym (ap (λ m. getD m i 0) (set-out l j v (ltb-false j (length l) q)))) b
-
--- a list of zeros has zeros only
-pub zeros-at : (n i : ℕ) → _≡_ {A = ℕ} (getD (replicate n 0) i 0) 0
-zeros-at zero i = refl
-zeros-at (suc n) zero = refl
-zeros-at (suc n) (suc i) = zeros-at n i
 
 module _ (lim : Limits) where
   units-zero : (k n : ℕ) → unitsOk lim (replicate k 0) n ≡ true
