@@ -1,0 +1,210 @@
+// The called crates' answers as records of numbers. All of it is inner.
+ghost use mathlib.Core.Path.{_≡_};
+ghost use Rattle.hut.specs.Answer.{absent, placeAt, nowhere, atEdge, listPlace, faultPlace, spotPlace, stepPlace, says};
+ghost use Rattle.hut.specs.Calls.{verdictPlace, checkAnswer, countsOf, readAnswer, readResult, wroteLength, writeAnswer, orderOf, stepAnswer};
+use crate::Answer;
+use crate::Place;
+use crate::ReadResult;
+use planfile::ReadAnswer;
+use planfile::Shape;
+use planfile::Wrote;
+use verdict::Fault;
+use verdict::Spot;
+use verdict::Verdict;
+
+// A slot, a job, a predecessor and a switch slot.
+fn place_at(slot: usize, job: usize, pred: usize, switched: usize) -> Place
+    ensures { λ r. ⌜ r ≡ placeAt slot job pred switched ⌝ }
+{
+    Place {
+        fault: Answer::ABSENT,
+        slot: slot,
+        job: job,
+        pred: pred,
+        switched: switched,
+        edge: Answer::ABSENT,
+    }
+}
+
+fn no_place() -> Place
+    ensures { λ r. ⌜ r ≡ nowhere ⌝ }
+{
+    place_at(
+        Answer::ABSENT,
+        Answer::ABSENT,
+        Answer::ABSENT,
+        Answer::ABSENT,
+    )
+}
+
+fn at_job(j: usize) -> Place
+    ensures { λ r. ⌜ r ≡ placeAt absent j absent absent ⌝ }
+{
+    place_at(Answer::ABSENT, j, Answer::ABSENT, Answer::ABSENT)
+}
+
+fn at_edge(e: usize) -> Place
+    ensures { λ r. ⌜ r ≡ atEdge e ⌝ }
+{
+    Place {
+        fault: Answer::ABSENT,
+        slot: Answer::ABSENT,
+        job: Answer::ABSENT,
+        pred: Answer::ABSENT,
+        switched: Answer::ABSENT,
+        edge: e,
+    }
+}
+
+// A place of the list.
+fn list_place(p: joblist::Place) -> Place
+    ensures { λ r. ⌜ r ≡ listPlace p ⌝ }
+{
+    match p {
+        joblist::Place::Nowhere => no_place(),
+        joblist::Place::AtJob(j) => at_job(j),
+        joblist::Place::AtEdge(e) => at_edge(e),
+    }
+}
+
+// A fault's slot, job, predecessor and switch slot.
+fn fault_place(f: Fault) -> Place
+    ensures { λ r. ⌜ r ≡ faultPlace f ⌝ }
+{
+    match f {
+        Fault::Late(t, j, x) => place_at(t, j, Answer::ABSENT, x),
+        Fault::Early(t, j, x) => place_at(t, j, Answer::ABSENT, x),
+        Fault::Before(t, j, p, x) => place_at(t, j, p, x),
+    }
+}
+
+// A place of the check, of reading and of writing.
+fn spot_place(s: Spot) -> Place
+    ensures { λ r. ⌜ r ≡ spotPlace s ⌝ }
+{
+    match s {
+        Spot::InList(p) => list_place(p),
+        Spot::AtSlot(t) => place_at(t, Answer::ABSENT, Answer::ABSENT, Answer::ABSENT),
+        Spot::AtFault(f) => fault_place(f),
+    }
+}
+
+// The place of a step: 35 names the job.
+fn step_place(p: dispatch::answer::Place) -> Place
+    ensures { λ r. ⌜ r ≡ stepPlace p ⌝ }
+{
+    match p {
+        dispatch::answer::Place::Nowhere => no_place(),
+        dispatch::answer::Place::Job(j) => at_job(j as usize),
+    }
+}
+
+// A number with its place.
+fn says(number: usize, place: Place) -> Answer
+    ensures { λ r. ⌜ r ≡ says number place ⌝ }
+{
+    Answer {
+        number: number,
+        place: place,
+        order: Answer::ABSENT,
+        length: Answer::ABSENT,
+    }
+}
+
+// The place of the check's answer.
+fn verdict_place(v: Verdict) -> Place
+    ensures { λ r. ⌜ r ≡ verdictPlace v ⌝ }
+{
+    match v {
+        Verdict::Yes => no_place(),
+        Verdict::No(w) => spot_place(verdict::place_of(w)),
+    }
+}
+
+// The check.
+pub(crate) fn check_answer(v: Verdict) -> Answer
+    ensures { λ r. ⌜ r ≡ checkAnswer v ⌝ }
+{
+    says(verdict::answer_number(v), verdict_place(v))
+}
+
+// n, m and L of a plan.
+fn counts_of(a: ReadAnswer) -> Shape
+    ensures { λ r. ⌜ r ≡ countsOf a ⌝ }
+{
+    match a {
+        ReadAnswer::Plan(shape) => shape,
+        ReadAnswer::No(_) => Shape {
+            jobs: Answer::ABSENT,
+            edges: Answer::ABSENT,
+            slots: Answer::ABSENT,
+        },
+    }
+}
+
+// What reading answers.
+pub(crate) fn read_answer(a: ReadAnswer) -> Answer
+    ensures { λ r. ⌜ r ≡ readAnswer a ⌝ }
+{
+    says(
+        planfile::read_number(a),
+        spot_place(planfile::read_place(a)),
+    )
+}
+
+// Reading: the answer and the counts.
+pub(crate) fn read_result(a: ReadAnswer) -> ReadResult
+    ensures { λ r. ⌜ r ≡ readResult a ⌝ }
+{
+    let counts = counts_of(a);
+    ReadResult {
+        answer: read_answer(a),
+        jobs: counts.jobs,
+        edges: counts.edges,
+        slots: counts.slots,
+    }
+}
+
+// The plan's length, where it was written.
+fn wrote_length(w: Wrote) -> usize
+    ensures { λ r. ⌜ r ≡ wroteLength w ⌝ }
+{
+    match w {
+        Wrote::Bytes(size) => size,
+        Wrote::No(_) => Answer::ABSENT,
+    }
+}
+
+// Writing.
+pub(crate) fn write_answer(w: Wrote) -> Answer
+    ensures { λ r. ⌜ r ≡ writeAnswer w ⌝ }
+{
+    Answer {
+        number: planfile::wrote_number(w),
+        place: spot_place(planfile::wrote_place(w)),
+        order: Answer::ABSENT,
+        length: wrote_length(w),
+    }
+}
+
+// The job ordered, or the idle mark.
+fn order_of(a: dispatch::answer::Answer) -> usize
+    ensures { λ r. ⌜ r ≡ orderOf a ⌝ }
+{
+    match a {
+        dispatch::answer::Answer::Order(j) => j as usize,
+        dispatch::answer::Answer::No(_) => Answer::ABSENT,
+    }
+}
+
+// A step.
+pub(crate) fn step_answer(a: dispatch::answer::Answer) -> Answer
+    ensures { λ r. ⌜ r ≡ stepAnswer a ⌝ }
+{
+    Answer {
+        number: a.number() as usize,
+        place: step_place(a.place()),
+        order: order_of(a),
+        length: Answer::ABSENT,
+    }
+}
