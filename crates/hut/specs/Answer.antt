@@ -7,6 +7,11 @@ use Rattle.verdict.specs.declared.Fault.{Fault}
 use Rattle.verdict.specs.declared.Fault.the-variants.{Late, Early, Before}
 use Rattle.verdict.specs.declared.Spot.{Spot}
 use Rattle.verdict.specs.declared.Spot.the-variants.{InList, AtSlot, AtFault}
+use Rattle.verdict.specs.Numbers.{answerNumber, placeOf}
+use Rattle.verdict.specs.declared.Verdict.{Verdict}
+use Rattle.verdict.specs.declared.Verdict.the-variants.{Yes, No}
+use Rattle.merge.specs.declared.BuildPlace.{BuildPlace}
+use Rattle.merge.specs.declared.BuildPlace.the-variants.{InList as OfList, AtJob as AtSlotAndJob, AtSlot as AtSlotAlone, Answer as OfCheck}
 use Rattle.dispatch.specs.declared.answer.Place.{Place as StepPlace}
 use Rattle.dispatch.specs.declared.answer.Place.the-variants.{Nowhere as NoJob, Job}
 use Rattle.hut.specs.declared.Place.{Place}
@@ -47,6 +52,18 @@ abbrev pub spotPlace : Spot → Place
 spotPlace (InList p) = listPlace p
 spotPlace (AtSlot t) = placeAt t absent absent absent
 spotPlace (AtFault f) = faultPlace f
+
+-- the place of the check's answer
+abbrev pub verdictPlace : Verdict → Place
+verdictPlace Yes = nowhere
+verdictPlace (No w) = spotPlace (placeOf w)
+
+-- a place of a build: the list's, a slot and a job, a slot, or for 24 the check's number and place
+abbrev pub buildPlace : BuildPlace → Place
+buildPlace (OfList p) = listPlace p
+buildPlace (AtSlotAndJob t j) = placeAt t j absent absent
+buildPlace (AtSlotAlone t) = placeAt t absent absent absent
+buildPlace (OfCheck v) = withFault (answerNumber v) (verdictPlace v)
 
 -- the place of a step: 35 names the job
 abbrev pub stepPlace : StepPlace → Place

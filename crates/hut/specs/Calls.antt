@@ -1,30 +1,26 @@
 -- The answer of each call, by the called crate's own number and place.
 -- Assumes nothing.
 use Prim.Native.Nat.{ℕ}
-use Rattle.verdict.specs.Numbers.{answerNumber, placeOf}
+use Rattle.verdict.specs.Numbers.{answerNumber}
 use Rattle.verdict.specs.declared.Verdict.{Verdict}
-use Rattle.verdict.specs.declared.Verdict.the-variants.{Yes, No}
 use Rattle.planfile.specs.Numbers.{readNumber, readPlace, wroteNumber, wrotePlace}
 use Rattle.planfile.specs.declared.ReadAnswer.{ReadAnswer}
 use Rattle.planfile.specs.declared.ReadAnswer.the-variants.{Plan, No as Unread}
 use Rattle.planfile.specs.declared.Shape.{Shape}
 use Rattle.planfile.specs.declared.Wrote.{Wrote}
 use Rattle.planfile.specs.declared.Wrote.the-variants.{Bytes, No as Unwritten}
+use Rattle.merge.specs.Numbers.{builtNumber, builtPlace}
+use Rattle.merge.specs.declared.Built.{Built}
+use Rattle.merge.specs.declared.Built.the-variants.{Plan as BuiltPlan, No as Unbuilt}
 use Rattle.dispatch.specs.Numbers.{numberOf as stepNumber, placeOf as stepSpot}
 use Rattle.dispatch.specs.declared.answer.Answer.{Answer as StepAnswer}
 use Rattle.dispatch.specs.declared.answer.Answer.the-variants.{Order, No as NoOrder}
 use Rattle.dispatch.specs.declared.state.State.{State}
 use Rattle.dispatch.specs.declared.state.Stepped.{Stepped}
-use Rattle.hut.specs.declared.Place.{Place}
 use Rattle.hut.specs.declared.Answer.{Answer}
 use Rattle.hut.specs.declared.ReadResult.{ReadResult}
 use Rattle.hut.specs.declared.Running.{Running}
-use Rattle.hut.specs.Answer.{absent, nowhere, spotPlace, stepPlace, says}
-
--- the place of the check's answer
-abbrev pub verdictPlace : Verdict → Place
-verdictPlace Yes = nowhere
-verdictPlace (No w) = spotPlace (placeOf w)
+use Rattle.hut.specs.Answer.{absent, spotPlace, verdictPlace, buildPlace, stepPlace, says}
 
 -- the check
 unfoldable pub checkAnswer : Verdict → Answer
@@ -51,6 +47,15 @@ wroteLength (Unwritten w) = absent
 -- writing
 unfoldable pub writeAnswer : Wrote → Answer
 writeAnswer w = record { number = wroteNumber w; place = spotPlace (wrotePlace w); order = absent; length = wroteLength w }
+
+-- the plan's length, where it was built
+abbrev pub builtLength : Built → ℕ
+builtLength (BuiltPlan size) = size
+builtLength (Unbuilt w) = absent
+
+-- building
+unfoldable pub buildAnswer : Built → Answer
+buildAnswer b = record { number = builtNumber b; place = buildPlace (builtPlace b); order = absent; length = builtLength b }
 
 -- the job ordered, or the idle mark
 abbrev pub orderOf : StepAnswer → ℕ

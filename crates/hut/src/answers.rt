@@ -1,10 +1,12 @@
 // The called crates' answers as records of numbers. All of it is inner.
 ghost use mathlib.Core.Path.{_≡_};
-ghost use Rattle.hut.specs.Answer.{absent, placeAt, nowhere, atEdge, listPlace, faultPlace, spotPlace, stepPlace, says};
-ghost use Rattle.hut.specs.Calls.{verdictPlace, checkAnswer, countsOf, readAnswer, readResult, wroteLength, writeAnswer, orderOf, stepAnswer};
+ghost use Rattle.hut.specs.Answer.{absent, placeAt, nowhere, atEdge, listPlace, faultPlace, withFault, spotPlace, verdictPlace, buildPlace, stepPlace, says};
+ghost use Rattle.hut.specs.Calls.{checkAnswer, countsOf, readAnswer, readResult, wroteLength, writeAnswer, builtLength, buildAnswer, orderOf, stepAnswer};
 use crate::Answer;
 use crate::Place;
 use crate::ReadResult;
+use merge::BuildPlace;
+use merge::Built;
 use planfile::ReadAnswer;
 use planfile::Shape;
 use planfile::Wrote;
@@ -89,6 +91,42 @@ fn spot_place(s: Spot) -> Place
     }
 }
 
+// The place of the check's answer.
+fn verdict_place(v: Verdict) -> Place
+    ensures { λ r. ⌜ r ≡ verdictPlace v ⌝ }
+{
+    match v {
+        Verdict::Yes => no_place(),
+        Verdict::No(w) => spot_place(verdict::place_of(w)),
+    }
+}
+
+// A place with the number of the check's answer beside it.
+fn with_fault(fault: usize, p: Place) -> Place
+    ensures { λ r. ⌜ r ≡ withFault fault p ⌝ }
+{
+    Place {
+        fault: fault,
+        slot: p.slot,
+        job: p.job,
+        pred: p.pred,
+        switched: p.switched,
+        edge: p.edge,
+    }
+}
+
+// A place of a build: the list's, a slot and a job, a slot, or for 24 the check's number and place.
+fn build_place(p: BuildPlace) -> Place
+    ensures { λ r. ⌜ r ≡ buildPlace p ⌝ }
+{
+    match p {
+        BuildPlace::InList(q) => list_place(q),
+        BuildPlace::AtJob(t, j) => place_at(t, j, Answer::ABSENT, Answer::ABSENT),
+        BuildPlace::AtSlot(t) => place_at(t, Answer::ABSENT, Answer::ABSENT, Answer::ABSENT),
+        BuildPlace::Answer(v) => with_fault(verdict::answer_number(v), verdict_place(v)),
+    }
+}
+
 // The place of a step: 35 names the job.
 fn step_place(p: dispatch::answer::Place) -> Place
     ensures { λ r. ⌜ r ≡ stepPlace p ⌝ }
@@ -108,16 +146,6 @@ fn says(number: usize, place: Place) -> Answer
         place: place,
         order: Answer::ABSENT,
         length: Answer::ABSENT,
-    }
-}
-
-// The place of the check's answer.
-fn verdict_place(v: Verdict) -> Place
-    ensures { λ r. ⌜ r ≡ verdictPlace v ⌝ }
-{
-    match v {
-        Verdict::Yes => no_place(),
-        Verdict::No(w) => spot_place(verdict::place_of(w)),
     }
 }
 
@@ -184,6 +212,28 @@ pub(crate) fn write_answer(w: Wrote) -> Answer
         place: spot_place(planfile::wrote_place(w)),
         order: Answer::ABSENT,
         length: wrote_length(w),
+    }
+}
+
+// The plan's length, where it was built.
+fn built_length(b: Built) -> usize
+    ensures { λ r. ⌜ r ≡ builtLength b ⌝ }
+{
+    match b {
+        Built::Plan(size) => size,
+        Built::No(_) => Answer::ABSENT,
+    }
+}
+
+// Building.
+pub(crate) fn build_answer(b: Built) -> Answer
+    ensures { λ r. ⌜ r ≡ buildAnswer b ⌝ }
+{
+    Answer {
+        number: merge::built_number(b),
+        place: build_place(merge::built_place(b)),
+        order: Answer::ABSENT,
+        length: built_length(b),
     }
 }
 

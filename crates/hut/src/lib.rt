@@ -4,9 +4,10 @@ ghost use lib.ListN.{length};
 ghost use Rattle.basics.specs.Limits.{firstEdition};
 ghost use Rattle.verdict.specs.Answer.{checkOf};
 ghost use Rattle.planfile.specs.Answer.{readOf, writeOf, outAfter};
+ghost use Rattle.merge.specs.Build.{buildOf, outAfter as builtInto};
 ghost use Rattle.dispatch.specs.Marks.{isSet};
 ghost use Rattle.dispatch.specs.Machine.{stepOf};
-ghost use Rattle.hut.specs.Calls.{checkAnswer, readResult, writeAnswer, stepAnswer, running};
+ghost use Rattle.hut.specs.Calls.{checkAnswer, readResult, writeAnswer, buildAnswer, stepAnswer, running};
 use dispatch::state::State;
 
 mod answers;
@@ -75,6 +76,15 @@ pub extern "C" fn hut_write(list: &[u8], lo: &[u8], hi: &[u8], out: &mut [u8]) -
         × (now (out .exit) ≡ outAfter firstEdition (now (list .entry)) (now (lo .entry)) (now (hi .entry)) (now (out .entry))) ⌝ }
 {
     answers::write_answer(planfile::write(list, lo, hi, out))
+}
+
+// The plan that the merge method makes of a list, at the front of `out`; no byte of it changes where the answer is no.
+#[no_mangle]
+pub extern "C" fn hut_build(list: &[u8], out: &mut [u8]) -> Answer
+    ensures { λ r. ⌜ (r ≡ buildAnswer (buildOf firstEdition (now (list .entry)) (length (now (out .entry)))))
+        × (now (out .exit) ≡ builtInto firstEdition (now (list .entry)) (now (out .entry))) ⌝ }
+{
+    answers::build_answer(merge::build(list, out))
 }
 
 // Inner: one step of a state by value. An end is signalled by any mark but 0.
