@@ -13,7 +13,8 @@ use Rattle.dispatch.specs.declared.state.State.{State}
 use Rattle.dispatch.specs.declared.answer.Answer.{Answer}
 use Rattle.dispatch.specs.declared.answer.Answer.the-variants.{Order, No}
 use Rattle.dispatch.specs.declared.answer.Why.the-variants.{Halted, StaleTick, TicksLost, PastHigh}
-use Rattle.dispatch.specs.Marks.{isSet, idle}
+use Rattle.basics.specs.Marks.{idle}
+use Rattle.dispatch.specs.Marks.{isSet}
 use Rattle.dispatch.specs.Scan.{sizesOk, byteOk, slotOk, tablesOk, edgeOk, edgesOk, jobOk, jobsOk, unitsOk, endedBefore, predsDone, namedIn, bump, pastHigh, lateLow, mayRun, choiceIn}
 use Rattle.dispatch.specs.Tick.{difference, tickOf}
 use Rattle.dispatch.specs.Machine.{planOk, stateOk, bookOf, moveOf, orderOf, goOf, endOf, nextOf, onTick, stepOf, freshOf}

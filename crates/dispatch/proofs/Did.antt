@@ -14,7 +14,8 @@ use Rattle.dispatch.specs.declared.answer.Why.{Why}
 use Rattle.dispatch.specs.declared.answer.Why.the-variants.{BadState, Halted, SameTick, StaleTick, TicksLost, NoJob, PastHigh}
 use Rattle.dispatch.specs.declared.tick.Tick.{Tick}
 use Rattle.dispatch.specs.declared.tick.Tick.the-variants.{Next, Same, Lost, Stale}
-use Rattle.dispatch.specs.Marks.{isSet, idle}
+use Rattle.basics.specs.Marks.{idle}
+use Rattle.dispatch.specs.Marks.{isSet}
 use Rattle.dispatch.specs.Scan.{pastHigh}
 use Rattle.dispatch.specs.Tick.{tickOf}
 use Rattle.dispatch.specs.Machine.{stateOk, bookOf, goOf, endOf, nextOf, onTick, stepOf, says, haltOf}

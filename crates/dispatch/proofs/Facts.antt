@@ -15,7 +15,8 @@ use Rattle.basics.proofs.Choice.{pick-both}
 use Rattle.basics.proofs.Below.{every, all-at}
 use Rattle.dispatch.specs.declared.plan.Plan.{Plan}
 use Rattle.dispatch.specs.declared.state.State.{State}
-use Rattle.dispatch.specs.Marks.{isSet, idle}
+use Rattle.basics.specs.Marks.{idle}
+use Rattle.dispatch.specs.Marks.{isSet}
 use Rattle.dispatch.specs.Scan.{sizesOk, byteOk, slotOk, tablesOk, edgeOk, edgesOk, jobsOk, unitsOk, namedIn}
 use Rattle.dispatch.specs.Tick.{difference}
 use Rattle.dispatch.specs.Machine.{planOk, stateOk, namedOf, moveOf, openFrameOf, withSlot}

@@ -9,3 +9,5 @@ pub mod Slots
 pub mod Shift
 pub mod Held
 pub mod Cases
+pub mod Entries
+pub mod Opened

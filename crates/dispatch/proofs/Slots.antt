@@ -25,7 +25,7 @@ use Rattle.dispatch.specs.declared.tick.Tick.the-variants.{Next}
 use Rattle.dispatch.specs.Marks.{isSet}
 use Rattle.dispatch.specs.Tick.{difference, tickOf}
 use Rattle.dispatch.specs.Machine.{planOk, stateOk, bookOf, moveOf, withSlot, openFrameOf, orderOf, goOf, freshOf, stepOf}
-use Rattle.dispatch.specs.Numbers.{numberOf}
+use Rattle.dispatch.specs.Numbers.{numberOf, answerNumber}
 use Rattle.dispatch.specs.Runs.{Given, Each, answersBy, stateBy, answersOf, stateOf, nextTicks, OnlyJobsRefused}
 use Rattle.dispatch.proofs.Facts.{plan-facts, state-facts}
 use Rattle.dispatch.proofs.Did.{Live, Reason, is-bad, is-halted, is-same, is-stale, is-lost, has-no-job, is-past, Did, refused, taken, Booked, was-idle, was-job, did}
@@ -33,7 +33,7 @@ use Rattle.dispatch.proofs.Keeps.{plan-stays}
 use Rattle.dispatch.proofs.Sound.{sound-stays, fresh-sound}
 
 -- a refusal has a number
-pub refused-number : (w : Why) → numberOf (No w) ≡ 0 → ⊥
+pub refused-number : (w : Why) → numberOf w ≡ 0 → ⊥
 refused-number BadState h = omega arith
 refused-number Halted h = omega arith
 refused-number SameTick h = omega arith
@@ -65,19 +65,19 @@ module _ (lim : Limits) where
 
   module _ (s : State) (tick : ℕ) (e : Bool) where
     -- a step that gives an order was sound and moved on
-    pub ordered-moves : numberOf (stepOf lim s tick e .answer) ≡ 0
+    pub ordered-moves : answerNumber (stepOf lim s tick e .answer) ≡ 0
         → (stateOk lim s ≡ true) × (stepOf lim s tick e .state .slot ≡ (s .slot + 1) % s .plan .len)
     unfolding goOf orderOf bookOf
     ordered-moves = go (stepOf lim s tick e) (did lim s tick e)
       where
-        go : (x : Stepped) → Did lim s tick e x → numberOf (x .answer) ≡ 0
+        go : (x : Stepped) → Did lim s tick e x → answerNumber (x .answer) ≡ 0
             → (stateOk lim s ≡ true) × (x .state .slot ≡ (s .slot + 1) % s .plan .len)
         go x (refused {w = w} y) h = absurd (refused-number w h)
         go x (taken v q was-idle) h = (v .0, move-next s tick (state-facts lim s (v .0) .slot-low))
         go x (taken v q (was-job ne)) h = (v .0, move-next (bookOf lim s (s .ordered) e) tick (state-facts lim s (v .0) .slot-low))
 
   abbrev NoneRefused : List Answer → Type 0
-  NoneRefused l = Each (λ a. numberOf a ≡ 0) l
+  NoneRefused l = Each (λ a. answerNumber a ≡ 0) l
 
   slots-run : (r : List Given) (s : State) (k : ℕ) → s .slot ≡ k % s .plan .len → NoneRefused (answersOf lim s r)
       → stateOf lim s r .slot ≡ (k + length r) % s .plan .len

@@ -20,11 +20,12 @@ use Rattle.dispatch.specs.declared.state.State.{State}
 use Rattle.dispatch.specs.declared.state.Stepped.{Stepped}
 use Rattle.dispatch.specs.declared.answer.Answer.{Answer}
 use Rattle.dispatch.specs.declared.answer.Answer.the-variants.{Order, No}
-use Rattle.dispatch.specs.Marks.{isSet, idle}
+use Rattle.basics.specs.Marks.{idle}
+use Rattle.dispatch.specs.Marks.{isSet}
 use Rattle.dispatch.specs.Scan.{byteOk, unitsOk, bump, choiceIn}
 use Rattle.dispatch.specs.Tick.{tickOf}
 use Rattle.dispatch.specs.Machine.{planOk, stateOk, bookOf, moveOf, openFrameOf, withSlot, withLast, choiceOf, orderOf, goOf, freshOf, onTick, stepOf}
-use Rattle.dispatch.specs.Numbers.{numberOf}
+use Rattle.dispatch.specs.Numbers.{answerNumber}
 use Rattle.dispatch.specs.Runs.{Given, Each, answersBy, stateBy, answersOf, stateOf, refusedOf}
 use Rattle.dispatch.proofs.Facts.{plan-facts, state-facts, state-sound, named-ok, job-below}
 use Rattle.dispatch.proofs.Did.{refused-has, Reason, is-bad, is-halted, is-same, is-stale, is-lost, has-no-job, is-past, Did, refused, taken, Booked, was-idle, was-job, did}
@@ -129,11 +130,11 @@ module _ (lim : Limits) where
       state-sound lim _ record { plan-ok = h; slot-low = omega (arith, f .len-low); ordered-ok = refl; units-ok = units-zero (lim .jobs) (p .n) }
 
   -- a sound state does not answer 37
-  sound-answer : (s : State) (tick : ℕ) (e : Bool) → stateOk lim s ≡ true → numberOf (stepOf lim s tick e .answer) ≡ 37 → ⊥
+  sound-answer : (s : State) (tick : ℕ) (e : Bool) → stateOk lim s ≡ true → answerNumber (stepOf lim s tick e .answer) ≡ 37 → ⊥
   unfolding goOf orderOf
   sound-answer s tick e v = go (stepOf lim s tick e) (did lim s tick e)
     where
-      go : (x : Stepped) → Did lim s tick e x → numberOf (x .answer) ≡ 37 → ⊥
+      go : (x : Stepped) → Did lim s tick e x → answerNumber (x .answer) ≡ 37 → ⊥
       go x (refused (is-bad u)) h = not-both v u
       go x (refused (is-halted u k)) h = omega arith
       go x (refused (is-same u k)) h = omega arith
@@ -144,7 +145,7 @@ module _ (lim : Limits) where
       go x (taken a b c) h = omega arith
 
   -- no run on a sound state answers 37
-  pub never-37 : (s : State) → stateOk lim s ≡ true → (r : List Given) → Each (λ a. numberOf a ≡ 37 → ⊥) (answersOf lim s r)
+  pub never-37 : (s : State) → stateOk lim s ≡ true → (r : List Given) → Each (λ a. answerNumber a ≡ 37 → ⊥) (answersOf lim s r)
   unfolding answersBy
   never-37 s v [] = tt
   never-37 s v (g ∷ r) =

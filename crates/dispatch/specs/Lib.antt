@@ -4,3 +4,4 @@ pub mod Tick
 pub mod Machine
 pub mod Numbers
 pub mod Runs
+pub mod Open

@@ -8,7 +8,8 @@ use lib.Dec.{ltb, leb, eqb}
 use Rattle.basics.specs.Choice.{pick}
 use Rattle.basics.specs.Below.{allOf}
 use Rattle.basics.specs.Limits.{Limits}
-use Rattle.dispatch.specs.Marks.{isSet, idle}
+use Rattle.basics.specs.Marks.{idle}
+use Rattle.dispatch.specs.Marks.{isSet}
 use Rattle.dispatch.specs.Scan.{sizesOk, byteOk, tablesOk, edgesOk, jobsOk, unitsOk, namedIn, bump, pastHigh, choiceIn}
 use Rattle.dispatch.specs.Tick.{difference, tickOf}
 use Rattle.dispatch.specs.declared.plan.Plan.{Plan}

@@ -1,4 +1,4 @@
--- The marks of a state and the idle mark.
+-- The marks of a state.
 -- Assumes nothing.
 use Prim.Native.Nat.{ℕ}
 use mathlib.Core.Bool.{Bool, not}
@@ -7,7 +7,3 @@ use lib.Dec.{eqb}
 -- a mark is a byte: 0 is clear, anything else set
 unfoldable pub isSet : ℕ → Bool
 isSet b = not (eqb b 0)
-
--- no job, in a table and as the job ordered last
-abbrev pub idle : ℕ
-idle = 255

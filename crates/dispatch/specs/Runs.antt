@@ -53,7 +53,7 @@ nextTicks f (e ∷ es) = record { tick = f % 65536; ended = e } ∷ nextTicks (f
 abbrev pub OnlyJobsRefused : List Answer → Type 0
 OnlyJobsRefused [] = Unit {0}
 OnlyJobsRefused (Order j ∷ l) = OnlyJobsRefused l
-OnlyJobsRefused (No w ∷ l) = (numberOf (No w) ≡ 34) ⊎ (numberOf (No w) ≡ 35)
+OnlyJobsRefused (No w ∷ l) = (numberOf w ≡ 34) ⊎ (numberOf w ≡ 35)
 
 -- what a refusal leaves: 31 and 35 set the halted mark, the others change nothing
 abbrev pub refusedOf : Why → State → State

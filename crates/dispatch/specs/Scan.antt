@@ -8,7 +8,8 @@ use lib.Dec.{ltb, leb, eqb}
 use Rattle.basics.specs.Choice.{pick}
 use Rattle.basics.specs.Below.{allBelow, allOf}
 use Rattle.basics.specs.Limits.{Limits}
-use Rattle.dispatch.specs.Marks.{isSet, idle}
+use Rattle.basics.specs.Marks.{idle}
+use Rattle.dispatch.specs.Marks.{isSet}
 
 -- L, n and m in their ranges
 unfoldable pub sizesOk : Limits → ℕ → ℕ → ℕ → Bool

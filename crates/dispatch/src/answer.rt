@@ -1,12 +1,7 @@
 // What a step says. A state holds arrays, so it stands beside the answer and not in it.
 ghost use mathlib.Core.Path.{_≡_};
-ghost use Rattle.dispatch.specs.Numbers.{numberOf, placeOf};
-
-// An order: a job's number, or idle. Or why not.
-pub enum Answer {
-    Order(u8),
-    No(Why),
-}
+ghost use Rattle.dispatch.specs.Numbers.{numberOf, placeOf, answerNumber, answerPlace};
+use joblist::Place;
 
 // Why a step is refused, in the order of the tests.
 pub enum Why {
@@ -19,61 +14,58 @@ pub enum Why {
     PastHigh(u8),
 }
 
-// What the paper's last column names.
-pub enum Place {
-    Nowhere,
-    Job(u8),
+// An order, which is a job's number or idle; or why not.
+pub enum Answer {
+    Order(u8),
+    No(Why),
 }
 
-impl Why {
-    // The paper's number of a refusal.
-    fn number(self) -> u8
-        ensures { λ r. ⌜ r ≡ numberOf (Answer.No self) ⌝ }
-    {
-        match self {
-            Why::BadState => 37,
-            Why::Halted => 32,
-            Why::SameTick => 30,
-            Why::StaleTick => 33,
-            Why::TicksLost => 31,
-            Why::NoJob => 34,
-            Why::PastHigh(_) => 35,
-        }
-    }
-
-    // The place that the paper gives with it.
-    fn place(self) -> Place
-        ensures { λ r. ⌜ r ≡ placeOf (Answer.No self) ⌝ }
-    {
-        match self {
-            Why::BadState => Place::Nowhere,
-            Why::Halted => Place::Nowhere,
-            Why::SameTick => Place::Nowhere,
-            Why::StaleTick => Place::Nowhere,
-            Why::TicksLost => Place::Nowhere,
-            Why::NoJob => Place::Nowhere,
-            Why::PastHigh(j) => Place::Job(j),
-        }
+// The paper's number of a refusal.
+pub fn number_of(w: Why) -> usize
+    ensures { λ r. ⌜ r ≡ numberOf w ⌝ }
+{
+    match w {
+        Why::BadState => 37,
+        Why::Halted => 32,
+        Why::SameTick => 30,
+        Why::StaleTick => 33,
+        Why::TicksLost => 31,
+        Why::NoJob => 34,
+        Why::PastHigh(_) => 35,
     }
 }
 
-impl Answer {
-    // The paper's number, 0 for an order.
-    pub fn number(self) -> u8
-        ensures { λ r. ⌜ r ≡ numberOf self ⌝ }
-    {
-        match self {
-            Answer::Order(_) => 0,
-            Answer::No(why) => why.number(),
-        }
+// The paper's place of a refusal.
+pub fn place_of(w: Why) -> Place
+    ensures { λ r. ⌜ r ≡ placeOf w ⌝ }
+{
+    match w {
+        Why::BadState => Place::Nowhere,
+        Why::Halted => Place::Nowhere,
+        Why::SameTick => Place::Nowhere,
+        Why::StaleTick => Place::Nowhere,
+        Why::TicksLost => Place::Nowhere,
+        Why::NoJob => Place::Nowhere,
+        Why::PastHigh(j) => Place::AtJob(joblist::wide(j)),
     }
+}
 
-    pub fn place(self) -> Place
-        ensures { λ r. ⌜ r ≡ placeOf self ⌝ }
-    {
-        match self {
-            Answer::Order(_) => Place::Nowhere,
-            Answer::No(why) => why.place(),
-        }
+// The number of an answer: 0 for an order.
+pub fn answer_number(a: Answer) -> usize
+    ensures { λ r. ⌜ r ≡ answerNumber a ⌝ }
+{
+    match a {
+        Answer::Order(_) => 0,
+        Answer::No(w) => number_of(w),
+    }
+}
+
+// The place of an answer.
+pub fn answer_place(a: Answer) -> Place
+    ensures { λ r. ⌜ r ≡ answerPlace a ⌝ }
+{
+    match a {
+        Answer::Order(_) => Place::Nowhere,
+        Answer::No(w) => place_of(w),
     }
 }

@@ -2,24 +2,24 @@
 ghost use mathlib.Core.Path.{_≡_};
 ghost use Rattle.dispatch.specs.Machine.{noPlan};
 ghost use Rattle.basics.specs.Limits.{firstEdition};
-use crate::limits::EDGES;
-use crate::limits::JOBS;
-use crate::limits::SLOTS;
+use joblist::MOST_EDGES;
+use joblist::MOST_JOBS;
+use joblist::MOST_SLOTS;
 
 #[repr(C)]
 pub struct Plan {
     pub len: u16,
     pub n: u16,
     pub m: u16,
-    pub arrival: [u16; JOBS],
-    pub deadline: [u16; JOBS],
-    pub clo: [u16; JOBS],
-    pub chi: [u16; JOBS],
-    pub level: [u8; JOBS],
-    pub from: [u8; EDGES],
-    pub to: [u8; EDGES],
-    pub lo: [u8; SLOTS],
-    pub hi: [u8; SLOTS],
+    pub arrival: [u16; MOST_JOBS],
+    pub deadline: [u16; MOST_JOBS],
+    pub clo: [u16; MOST_JOBS],
+    pub chi: [u16; MOST_JOBS],
+    pub level: [u8; MOST_JOBS],
+    pub from: [u8; MOST_EDGES],
+    pub to: [u8; MOST_EDGES],
+    pub lo: [u8; MOST_SLOTS],
+    pub hi: [u8; MOST_SLOTS],
 }
 
 impl Plan {
@@ -37,15 +37,15 @@ impl Plan {
             len: 0,
             n: 0,
             m: 0,
-            arrival: [0u16; JOBS],
-            deadline: [0u16; JOBS],
-            clo: [0u16; JOBS],
-            chi: [0u16; JOBS],
-            level: [0u8; JOBS],
-            from: [0u8; EDGES],
-            to: [0u8; EDGES],
-            lo: [0u8; SLOTS],
-            hi: [0u8; SLOTS],
+            arrival: [0u16; MOST_JOBS],
+            deadline: [0u16; MOST_JOBS],
+            clo: [0u16; MOST_JOBS],
+            chi: [0u16; MOST_JOBS],
+            level: [0u8; MOST_JOBS],
+            from: [0u8; MOST_EDGES],
+            to: [0u8; MOST_EDGES],
+            lo: [0u8; MOST_SLOTS],
+            hi: [0u8; MOST_SLOTS],
         }
     }
 }

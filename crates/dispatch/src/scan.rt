@@ -4,12 +4,14 @@ ghost use Prim.Native.Nat.{ℕ, _≤_, _<_};
 ghost use lib.ListN.{getD};
 ghost use Rattle.basics.specs.Limits.{firstEdition};
 ghost use Rattle.dispatch.specs.Scan.{sizesOk, byteOk, tablesOk, edgesOk, jobsOk, unitsOk, predsDone, namedIn, bump, pastHigh, lateLow, mayRun, choiceIn};
-ghost use Rattle.dispatch.specs.Marks.{idle};
-use crate::limits::BUDGET;
-use crate::limits::EDGES;
-use crate::limits::JOBS;
-use crate::limits::SLOTS;
+ghost use Rattle.basics.specs.Marks.{idle};
+use joblist::MOST_EDGES;
+use joblist::MOST_JOBS;
+use joblist::MOST_SLOTS;
 use crate::plan::Plan;
+
+// The largest budget, and where a count of units stops.
+const BUDGET: u16 = joblist::MOST_BUDGET as u16;
 
 // L, n and m in their ranges.
 pub fn sizes_ok(len: usize, n: usize, m: usize) -> bool
@@ -18,22 +20,16 @@ pub fn sizes_ok(len: usize, n: usize, m: usize) -> bool
     if len < 1 {
         return false;
     }
-    if SLOTS < len {
+    if MOST_SLOTS < len {
         return false;
     }
     if n < 1 {
         return false;
     }
-    if JOBS < n {
+    if MOST_JOBS < n {
         return false;
     }
-    m <= EDGES
-}
-
-fn wide(x: u8) -> usize
-    ensures { λ r. ⌜ r ≡ x ⌝ }
-{
-    x as usize
+    m <= MOST_EDGES
 }
 
 // Idle, or a job's number.
@@ -43,11 +39,11 @@ pub fn byte_ok(n: usize, x: u8) -> bool
     if x == Plan::IDLE {
         return true;
     }
-    wide(x) < n
+    joblist::wide(x) < n
 }
 
 // Both tables, at each slot.
-pub fn tables_ok<'a>(lo: &'a [u8; SLOTS], hi: &'a [u8; SLOTS], len: usize, n: usize) -> bool
+pub fn tables_ok<'a>(lo: &'a [u8; MOST_SLOTS], hi: &'a [u8; MOST_SLOTS], len: usize, n: usize) -> bool
     requires { ⌜ len ≤ 1024 ⌝ }
     ensures { λ r. ⌜ r ≡ tablesOk (now (lo .entry)) (now (hi .entry)) len n ⌝ }
 {
@@ -65,16 +61,16 @@ pub fn tables_ok<'a>(lo: &'a [u8; SLOTS], hi: &'a [u8; SLOTS], len: usize, n: us
 }
 
 // Both ends of each edge.
-pub fn edges_ok<'a>(from: &'a [u8; EDGES], to: &'a [u8; EDGES], m: usize, n: usize) -> bool
+pub fn edges_ok<'a>(from: &'a [u8; MOST_EDGES], to: &'a [u8; MOST_EDGES], m: usize, n: usize) -> bool
     requires { ⌜ m ≤ 256 ⌝ }
     ensures { λ r. ⌜ r ≡ edgesOk (now (from .entry)) (now (to .entry)) m n ⌝ }
 {
     let mut e: usize = 0;
     while e < m {
-        if n <= wide(from[e]) {
+        if n <= joblist::wide(from[e]) {
             return false;
         }
-        if n <= wide(to[e]) {
+        if n <= joblist::wide(to[e]) {
             return false;
         }
         e += 1;
@@ -84,9 +80,9 @@ pub fn edges_ok<'a>(from: &'a [u8; EDGES], to: &'a [u8; EDGES], m: usize, n: usi
 
 // Level and budgets of each job.
 pub fn jobs_ok<'a>(
-    level: &'a [u8; JOBS],
-    clo: &'a [u16; JOBS],
-    chi: &'a [u16; JOBS],
+    level: &'a [u8; MOST_JOBS],
+    clo: &'a [u16; MOST_JOBS],
+    chi: &'a [u16; MOST_JOBS],
     n: usize,
 ) -> bool
     requires { ⌜ n ≤ 64 ⌝ }
@@ -109,7 +105,7 @@ pub fn jobs_ok<'a>(
 }
 
 // The unit count of each job.
-pub fn units_ok(units: &[u16; JOBS], n: usize) -> bool
+pub fn units_ok(units: &[u16; MOST_JOBS], n: usize) -> bool
     requires { ⌜ n ≤ 64 ⌝ }
     ensures { λ r. ⌜ r ≡ unitsOk firstEdition (now (units .entry)) n ⌝ }
 {
@@ -125,10 +121,10 @@ pub fn units_ok(units: &[u16; JOBS], n: usize) -> bool
 
 // No edge to job j starts at an unfinished job.
 pub fn preds_done<'a>(
-    from: &'a [u8; EDGES],
-    to: &'a [u8; EDGES],
+    from: &'a [u8; MOST_EDGES],
+    to: &'a [u8; MOST_EDGES],
     m: usize,
-    done: &'a [u8; JOBS],
+    done: &'a [u8; MOST_JOBS],
     j: u8,
 ) -> bool
     requires { ⌜ m ≤ 256 ⌝ }
@@ -138,7 +134,7 @@ pub fn preds_done<'a>(
     let mut e: usize = 0;
     while e < m {
         if to[e] == j {
-            let p = wide(from[e]);
+            let p = joblist::wide(from[e]);
             if done[p] == 0 {
                 return false;
             }
@@ -149,7 +145,7 @@ pub fn preds_done<'a>(
 }
 
 // The job that the mode's table names at the slot.
-pub fn named<'a>(lo: &'a [u8; SLOTS], hi: &'a [u8; SLOTS], high: u8, slot: usize) -> u8
+pub fn named<'a>(lo: &'a [u8; MOST_SLOTS], hi: &'a [u8; MOST_SLOTS], high: u8, slot: usize) -> u8
     requires { ⌜ slot < 1024 ⌝ }
     ensures { λ r. ⌜ r ≡ namedIn (now (lo .entry)) (now (hi .entry)) high slot ⌝ }
 {
@@ -170,14 +166,14 @@ pub fn bumped(u: u16) -> u16
 }
 
 // One entry of a lent table.
-pub fn count_at(counts: &[u16; JOBS], j: usize) -> u16
+pub fn count_at(counts: &[u16; MOST_JOBS], j: usize) -> u16
     requires { ⌜ j < 64 ⌝ }
     ensures { λ r. ⌜ r ≡ getD (now (counts .entry)) j 0 ⌝ }
 {
     counts[j]
 }
 
-pub fn byte_at(bytes: &[u8; JOBS], j: usize) -> u8
+pub fn byte_at(bytes: &[u8; MOST_JOBS], j: usize) -> u8
     requires { ⌜ j < 64 ⌝ }
     ensures { λ r. ⌜ r ≡ getD (now (bytes .entry)) j 0 ⌝ }
 {
@@ -186,9 +182,9 @@ pub fn byte_at(bytes: &[u8; JOBS], j: usize) -> u8
 
 // 35: whether job j, not ended, is high and with one unit more at or past CHI.
 pub fn past_high<'a>(
-    level: &'a [u8; JOBS],
-    chi: &'a [u16; JOBS],
-    units: &'a [u16; JOBS],
+    level: &'a [u8; MOST_JOBS],
+    chi: &'a [u16; MOST_JOBS],
+    units: &'a [u16; MOST_JOBS],
     j: usize,
     ended: bool,
 ) -> bool
@@ -206,8 +202,8 @@ pub fn past_high<'a>(
 
 // Whether job j is low, in HI, at or past its deadline.
 fn late_low<'a>(
-    deadline: &'a [u16; JOBS],
-    level: &'a [u8; JOBS],
+    deadline: &'a [u16; MOST_JOBS],
+    level: &'a [u8; MOST_JOBS],
     high: u8,
     slot: u16,
     j: usize,
@@ -226,13 +222,13 @@ fn late_low<'a>(
 
 // Whether job x may run in the slot.
 fn may_run<'a>(
-    done: &'a [u8; JOBS],
-    cut: &'a [u8; JOBS],
-    arrival: &'a [u16; JOBS],
-    deadline: &'a [u16; JOBS],
-    level: &'a [u8; JOBS],
-    from: &'a [u8; EDGES],
-    to: &'a [u8; EDGES],
+    done: &'a [u8; MOST_JOBS],
+    cut: &'a [u8; MOST_JOBS],
+    arrival: &'a [u16; MOST_JOBS],
+    deadline: &'a [u16; MOST_JOBS],
+    level: &'a [u8; MOST_JOBS],
+    from: &'a [u8; MOST_EDGES],
+    to: &'a [u8; MOST_EDGES],
     m: usize,
     high: u8,
     slot: u16,
@@ -261,13 +257,13 @@ fn may_run<'a>(
 
 // The named job if it may run, else idle.
 pub fn choice<'a>(
-    done: &'a [u8; JOBS],
-    cut: &'a [u8; JOBS],
-    arrival: &'a [u16; JOBS],
-    deadline: &'a [u16; JOBS],
-    level: &'a [u8; JOBS],
-    from: &'a [u8; EDGES],
-    to: &'a [u8; EDGES],
+    done: &'a [u8; MOST_JOBS],
+    cut: &'a [u8; MOST_JOBS],
+    arrival: &'a [u16; MOST_JOBS],
+    deadline: &'a [u16; MOST_JOBS],
+    level: &'a [u8; MOST_JOBS],
+    from: &'a [u8; MOST_EDGES],
+    to: &'a [u8; MOST_EDGES],
     m: usize,
     high: u8,
     slot: u16,

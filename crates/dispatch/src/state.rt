@@ -3,12 +3,12 @@ ghost use mathlib.Core.Path.{_≡_};
 ghost use mathlib.Core.Bool.{true, false};
 ghost use Prim.Native.Nat.{_<_, _-_};
 ghost use Rattle.basics.specs.Limits.{firstEdition};
-ghost use Rattle.dispatch.specs.Marks.{idle};
+ghost use Rattle.basics.specs.Marks.{idle};
 ghost use Rattle.dispatch.specs.Tick.{tickOf};
 ghost use Rattle.dispatch.specs.Machine.{planOk, stateOk, switchOf, haltOf, openFrameOf, bookOf, moveOf, orderOf, goOf, endOf, nextOf, onTick, freshOf, noState, stepOf, says};
 use crate::answer::Answer;
 use crate::answer::Why;
-use crate::limits::JOBS;
+use joblist::MOST_JOBS;
 use crate::plan::Plan;
 use crate::scan;
 use crate::tick;
@@ -23,9 +23,9 @@ pub struct State {
     pub ordered: u8,
     pub high: u8,
     pub halted: u8,
-    pub units: [u16; JOBS],
-    pub done: [u8; JOBS],
-    pub cut: [u8; JOBS],
+    pub units: [u16; MOST_JOBS],
+    pub done: [u8; MOST_JOBS],
+    pub cut: [u8; MOST_JOBS],
 }
 
 pub struct Stepped {
@@ -57,9 +57,9 @@ impl State {
             ordered: Plan::IDLE,
             high: 0,
             halted: 0,
-            units: [0u16; JOBS],
-            done: [0u8; JOBS],
-            cut: [0u8; JOBS],
+            units: [0u16; MOST_JOBS],
+            done: [0u8; MOST_JOBS],
+            cut: [0u8; MOST_JOBS],
         }
     }
 
@@ -75,9 +75,9 @@ impl State {
             ordered: 0,
             high: 0,
             halted: 0,
-            units: [0u16; JOBS],
-            done: [0u8; JOBS],
-            cut: [0u8; JOBS],
+            units: [0u16; MOST_JOBS],
+            done: [0u8; MOST_JOBS],
+            cut: [0u8; MOST_JOBS],
         }
     }
 
@@ -130,9 +130,9 @@ impl State {
     {
         self.slot = 0;
         self.high = 0;
-        self.units = [0u16; JOBS];
-        self.done = [0u8; JOBS];
-        self.cut = [0u8; JOBS];
+        self.units = [0u16; MOST_JOBS];
+        self.done = [0u8; MOST_JOBS];
+        self.cut = [0u8; MOST_JOBS];
         self
     }
 

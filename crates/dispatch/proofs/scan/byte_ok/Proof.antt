@@ -7,7 +7,7 @@ use Rattle.dispatch.proofs.scan.byte_ok.Statement.{statement}
 use Rattle.dispatch.proofs.scan.byte_ok.Tie as tie
 use Rattle.dispatch.proofs.scan.byte_ok.Reads as reads
 use Rattle.dispatch.proofs.scan.byte_ok.Lts as lts
-use Rattle.dispatch.proofs.scan.wide.Reads as wide-reads
+use Rattle.joblist.proofs.wide.Reads as wide-reads
 
 -- src/scan.rt:43:9
 returns : tie.Need-returns
@@ -21,7 +21,7 @@ wide-requires c κs = search needs
 -- src/scan.rt:39:1
 returns-2 : tie.Need-returns-2
 unfolding byteOk
-returns-2 c = simp (ne-eqb _ _ (c .before .if1 .left), c .wide .ensures)
+returns-2 c = simp (ne-eqb _ _ (c .before .if1 .left), c .wide .ensures .0)
 
 pub byte-ok-spec : {M : Type 1} → statement M
 byte-ok-spec = tie.close (tie.spec returns wide-requires returns-2)

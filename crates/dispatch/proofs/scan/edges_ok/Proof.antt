@@ -11,7 +11,7 @@ use Rattle.dispatch.proofs.scan.edges_ok.Statement.{statement}
 use Rattle.dispatch.proofs.scan.edges_ok.Tie as tie
 use Rattle.dispatch.proofs.scan.edges_ok.Reads as reads
 use Rattle.dispatch.proofs.scan.edges_ok.Lts as lts
-use Rattle.dispatch.proofs.scan.wide.Reads as wide-reads
+use Rattle.joblist.proofs.wide.Reads as wide-reads
 
 abbrev Inv-loop : tie.InvT-loop
 Inv-loop from to m n e₀ e = (e ≤ m) × (allBelow (edgeOk from to n) e ≡ true)
@@ -34,7 +34,7 @@ wide-requires c κs = search needs
 -- src/scan.rt:74:13
 returns : tie.Need-returns Inv-loop μ-loop
 unfolding edgesOk edgeOk
-returns c = all-stops _ _ (c .before .before .before .before .loop .e) (c .before .before .before .loop-test .taken) (sym (one-fails _ 0 (le-ltb _ _ (rw (c .before .wide .ensures) at (c .if1 .taken)))))
+returns c = all-stops _ _ (c .before .before .before .before .loop .e) (c .before .before .before .loop-test .taken) (sym (one-fails _ 0 (le-ltb _ _ (rw (c .before .wide .ensures .0) at (c .if1 .taken)))))
 
 -- src/scan.rt:76:22
 element-copy-out-wide-2 : tie.Need-element-copy-out-wide-2 Inv-loop μ-loop
@@ -47,7 +47,7 @@ wide-requires-2 c κs = search needs
 -- src/scan.rt:77:13
 returns-2 : tie.Need-returns-2 Inv-loop μ-loop
 unfolding edgesOk edgeOk
-returns-2 c = all-stops _ _ (c .before .before .before .before .before .before .before .loop .e) (c .before .before .before .before .before .before .loop-test .taken) (sym (one-fails _ 1 (le-ltb _ _ (rw (c .before .wide2 .ensures) at (c .if2 .taken)))))
+returns-2 c = all-stops _ _ (c .before .before .before .before .before .before .before .loop .e) (c .before .before .before .before .before .before .loop-test .taken) (sym (one-fails _ 1 (le-ltb _ _ (rw (c .before .wide2 .ensures .0) at (c .if2 .taken)))))
 
 -- src/scan.rt:79:9
 add-e : tie.Need-add-e Inv-loop μ-loop
@@ -60,7 +60,7 @@ loop-less c = omega arith
 -- src/scan.rt:72:5
 loop-again : tie.Need-loop-again Inv-loop μ-loop
 unfolding edgeOk allOf
-loop-again c = (omega arith, all-more _ _ (c .before .before .before .before .before .before .before .loop .inv .1) (simp (lt-ltb _ _ (rw (c .before .before .before .before .wide .ensures) at (c .before .before .before .if1 .left)), lt-ltb _ _ (rw (c .before .wide2 .ensures) at (c .if2 .left)))))
+loop-again c = (omega arith, all-more _ _ (c .before .before .before .before .before .before .before .loop .inv .1) (simp (lt-ltb _ _ (rw (c .before .before .before .before .wide .ensures .0) at (c .before .before .before .if1 .left)), lt-ltb _ _ (rw (c .before .wide2 .ensures .0) at (c .if2 .left)))))
 
 -- src/scan.rt:67:1
 returns-3 : tie.Need-returns-3 Inv-loop μ-loop

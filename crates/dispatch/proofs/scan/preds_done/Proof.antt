@@ -13,7 +13,7 @@ use Rattle.dispatch.proofs.scan.preds_done.Statement.{statement}
 use Rattle.dispatch.proofs.scan.preds_done.Tie as tie
 use Rattle.dispatch.proofs.scan.preds_done.Reads as reads
 use Rattle.dispatch.proofs.scan.preds_done.Lts as lts
-use Rattle.dispatch.proofs.scan.wide.Reads as wide-reads
+use Rattle.joblist.proofs.wide.Reads as wide-reads
 
 abbrev Inv-loop : tie.InvT-loop
 Inv-loop from to m done j e₀ e = (e ≤ m) × (allBelow (endedBefore from to done j) e ≡ true)
@@ -39,12 +39,12 @@ wide-requires c κs = search needs
 
 -- src/scan.rt:141:16
 element-copy-out-if2 : tie.Need-element-copy-out-if2 Inv-loop μ-loop
-element-copy-out-if2 c = omega (arith, c .wide .ensures, c .before .before .before .before .before .before .pre .1 (c .before .before .before .before .before .loop .e) (c .before .before .before .before .loop-test .taken))
+element-copy-out-if2 c = omega (arith, c .wide .ensures .0, c .before .before .before .before .before .before .pre .1 (c .before .before .before .before .before .loop .e) (c .before .before .before .before .loop-test .taken))
 
 -- src/scan.rt:142:17
 returns : tie.Need-returns Inv-loop μ-loop
 unfolding predsDone
-returns c = all-stops _ _ (c .before .before .before .before .before .before .before .loop .e) (c .before .before .before .before .before .before .loop-test .taken) (edge-open _ _ _ _ _ (c .before .before .before .before .if1 .taken) (mark-clear _ (rw (c .before .before .wide .ensures) at (c .if2 .taken))))
+returns c = all-stops _ _ (c .before .before .before .before .before .before .before .loop .e) (c .before .before .before .before .before .before .loop-test .taken) (edge-open _ _ _ _ _ (c .before .before .before .before .if1 .taken) (mark-clear _ (rw (c .before .before .wide .ensures .0) at (c .if2 .taken))))
 
 -- src/scan.rt:145:9
 add-e : tie.Need-add-e Inv-loop μ-loop
@@ -59,7 +59,7 @@ loop-again : tie.Need-loop-again Inv-loop μ-loop
 loop-again c = (
   omega arith,
   all-more _ _ (c .before .before .before .loop .inv .1)
-      (⊎-elim (λ w. edge-done _ _ _ _ _ (mark-set _ (rw (w .2 .ensures) at (w .4 .left)))) (λ w. edge-other _ _ _ _ _ (w .left)) (c .if1 .came)),
+      (⊎-elim (λ w. edge-done _ _ _ _ _ (mark-set _ (rw (w .2 .ensures .0) at (w .4 .left)))) (λ w. edge-other _ _ _ _ _ (w .left)) (c .if1 .came)),
 )
 
 -- src/scan.rt:126:1
