@@ -12,8 +12,6 @@ use Rattle.verdict.specs.declared.Verdict.{Verdict}
 use Rattle.verdict.specs.declared.Verdict.the-variants.{Yes, No}
 use Rattle.merge.specs.declared.BuildPlace.{BuildPlace}
 use Rattle.merge.specs.declared.BuildPlace.the-variants.{InList as OfList, AtJob as AtSlotAndJob, AtSlot as AtSlotAlone, Answer as OfCheck}
-use Rattle.dispatch.specs.declared.answer.Place.{Place as StepPlace}
-use Rattle.dispatch.specs.declared.answer.Place.the-variants.{Nowhere as NoJob, Job}
 use Rattle.hut.specs.declared.Place.{Place}
 use Rattle.hut.specs.declared.Answer.{Answer}
 
@@ -35,7 +33,7 @@ atEdge e = record { fault = absent; slot = absent; job = absent; pred = absent; 
 abbrev pub withFault : ℕ → Place → Place
 withFault n p = record { fault = n; slot = p .slot; job = p .job; pred = p .pred; switched = p .switched; edge = p .edge }
 
--- a place of the list
+-- a place of the list, and of a step
 abbrev pub listPlace : ListPlace → Place
 listPlace Nowhere = nowhere
 listPlace (AtJob j) = placeAt absent j absent absent
@@ -64,11 +62,6 @@ buildPlace (OfList p) = listPlace p
 buildPlace (AtSlotAndJob t j) = placeAt t j absent absent
 buildPlace (AtSlotAlone t) = placeAt t absent absent absent
 buildPlace (OfCheck v) = withFault (answerNumber v) (verdictPlace v)
-
--- the place of a step: 35 names the job
-abbrev pub stepPlace : StepPlace → Place
-stepPlace NoJob = nowhere
-stepPlace (Job j) = placeAt absent j absent absent
 
 -- a number with its place
 abbrev pub says : ℕ → Place → Answer

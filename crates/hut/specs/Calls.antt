@@ -12,15 +12,16 @@ use Rattle.planfile.specs.declared.Wrote.the-variants.{Bytes, No as Unwritten}
 use Rattle.merge.specs.Numbers.{builtNumber, builtPlace}
 use Rattle.merge.specs.declared.Built.{Built}
 use Rattle.merge.specs.declared.Built.the-variants.{Plan as BuiltPlan, No as Unbuilt}
-use Rattle.dispatch.specs.Numbers.{numberOf as stepNumber, placeOf as stepSpot}
+use Rattle.dispatch.specs.Numbers.{answerNumber as stepNumber, answerPlace as stepPlace}
 use Rattle.dispatch.specs.declared.answer.Answer.{Answer as StepAnswer}
 use Rattle.dispatch.specs.declared.answer.Answer.the-variants.{Order, No as NoOrder}
+use Rattle.dispatch.specs.declared.open.Opened.{Opened}
 use Rattle.dispatch.specs.declared.state.State.{State}
 use Rattle.dispatch.specs.declared.state.Stepped.{Stepped}
 use Rattle.hut.specs.declared.Answer.{Answer}
 use Rattle.hut.specs.declared.ReadResult.{ReadResult}
 use Rattle.hut.specs.declared.Running.{Running}
-use Rattle.hut.specs.Answer.{absent, spotPlace, verdictPlace, buildPlace, stepPlace, says}
+use Rattle.hut.specs.Answer.{absent, listPlace, spotPlace, verdictPlace, buildPlace, says}
 
 -- the check
 unfoldable pub checkAnswer : Verdict → Answer
@@ -64,7 +65,7 @@ orderOf (NoOrder w) = absent
 
 -- a step
 unfoldable pub stepAnswer : StepAnswer → Answer
-stepAnswer a = record { number = stepNumber a; place = stepPlace (stepSpot a); order = orderOf a; length = absent }
+stepAnswer a = record { number = stepNumber a; place = listPlace (stepPlace a); order = orderOf a; length = absent }
 
 -- an answer beside a state
 abbrev pub beside : Answer → State → Running
@@ -73,3 +74,7 @@ beside a s = record { answer = a; state = s }
 -- a step's answer beside the state that it leaves
 unfoldable pub running : Stepped → Running
 running s = beside (stepAnswer (s .answer)) (s .state)
+
+-- opening: the reader's answer beside the state
+unfoldable pub opened : Opened → Running
+opened o = beside (readAnswer (o .answer)) (o .state)

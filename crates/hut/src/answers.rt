@@ -1,10 +1,12 @@
 // The called crates' answers as records of numbers. All of it is inner.
 ghost use mathlib.Core.Path.{_≡_};
-ghost use Rattle.hut.specs.Answer.{absent, placeAt, nowhere, atEdge, listPlace, faultPlace, withFault, spotPlace, verdictPlace, buildPlace, stepPlace, says};
+ghost use Rattle.hut.specs.Answer.{absent, placeAt, nowhere, atEdge, listPlace, faultPlace, withFault, spotPlace, verdictPlace, buildPlace, says};
 ghost use Rattle.hut.specs.Calls.{checkAnswer, countsOf, readAnswer, readResult, wroteLength, writeAnswer, builtLength, buildAnswer, orderOf, stepAnswer};
 use crate::Answer;
 use crate::Place;
 use crate::ReadResult;
+use dispatch::answer::answer_number;
+use dispatch::answer::answer_place;
 use merge::BuildPlace;
 use merge::Built;
 use planfile::ReadAnswer;
@@ -58,7 +60,7 @@ fn at_edge(e: usize) -> Place
     }
 }
 
-// A place of the list.
+// A place of the list, and of a step.
 fn list_place(p: joblist::Place) -> Place
     ensures { λ r. ⌜ r ≡ listPlace p ⌝ }
 {
@@ -124,16 +126,6 @@ fn build_place(p: BuildPlace) -> Place
         BuildPlace::AtJob(t, j) => place_at(t, j, Answer::ABSENT, Answer::ABSENT),
         BuildPlace::AtSlot(t) => place_at(t, Answer::ABSENT, Answer::ABSENT, Answer::ABSENT),
         BuildPlace::Answer(v) => with_fault(verdict::answer_number(v), verdict_place(v)),
-    }
-}
-
-// The place of a step: 35 names the job.
-fn step_place(p: dispatch::answer::Place) -> Place
-    ensures { λ r. ⌜ r ≡ stepPlace p ⌝ }
-{
-    match p {
-        dispatch::answer::Place::Nowhere => no_place(),
-        dispatch::answer::Place::Job(j) => at_job(j as usize),
     }
 }
 
@@ -242,7 +234,7 @@ fn order_of(a: dispatch::answer::Answer) -> usize
     ensures { λ r. ⌜ r ≡ orderOf a ⌝ }
 {
     match a {
-        dispatch::answer::Answer::Order(j) => j as usize,
+        dispatch::answer::Answer::Order(j) => joblist::wide(j),
         dispatch::answer::Answer::No(_) => Answer::ABSENT,
     }
 }
@@ -252,8 +244,8 @@ pub(crate) fn step_answer(a: dispatch::answer::Answer) -> Answer
     ensures { λ r. ⌜ r ≡ stepAnswer a ⌝ }
 {
     Answer {
-        number: a.number() as usize,
-        place: step_place(a.place()),
+        number: answer_number(a),
+        place: list_place(answer_place(a)),
         order: order_of(a),
         length: Answer::ABSENT,
     }

@@ -7,7 +7,8 @@ ghost use Rattle.planfile.specs.Answer.{readOf, writeOf, outAfter};
 ghost use Rattle.merge.specs.Build.{buildOf, outAfter as builtInto};
 ghost use Rattle.dispatch.specs.Marks.{isSet};
 ghost use Rattle.dispatch.specs.Machine.{stepOf};
-ghost use Rattle.hut.specs.Calls.{checkAnswer, readResult, writeAnswer, buildAnswer, stepAnswer, running};
+ghost use Rattle.dispatch.specs.Open.{openOf};
+ghost use Rattle.hut.specs.Calls.{checkAnswer, readResult, writeAnswer, buildAnswer, stepAnswer, running, opened};
 use dispatch::state::State;
 
 mod answers;
@@ -85,6 +86,20 @@ pub extern "C" fn hut_build(list: &[u8], out: &mut [u8]) -> Answer
         × (now (out .exit) ≡ builtInto firstEdition (now (list .entry)) (now (out .entry))) ⌝ }
 {
     answers::build_answer(merge::build(list, out))
+}
+
+// A state for the plan in the bytes, whose next tick is `first`: by value, for C to keep. All zero where the answer is no.
+#[no_mangle]
+pub extern "C" fn hut_open(plan: &[u8], first: u16) -> Running
+    ensures { λ r. ⌜ r ≡ opened (openOf firstEdition (now (plan .entry)) first) ⌝ }
+{
+    let o = dispatch::open::open(plan, first);
+    let a = o.answer;
+    let state = o.state;
+    Running {
+        answer: answers::read_answer(a),
+        state: state,
+    }
 }
 
 // Inner: one step of a state by value. An end is signalled by any mark but 0.
