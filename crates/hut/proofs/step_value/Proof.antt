@@ -1,25 +1,19 @@
+-- `step_value` meets its contract: the answer of `step`, as a record, beside its state.
+-- Assumes nothing.
 use borrow.Author.Needs.{needs}
-use native.Mathlib.Omega.{arith}
 use Rattle.hut.specs.Calls.{beside, running}
 use Rattle.hut.specs.declared.Answer.{Answer}
 use Rattle.dispatch.specs.Marks.{isSet}
 use mathlib.Core.Path.{ap, _∙_}
 use Rattle.hut.proofs.step_value.Statement.{statement}
 use Rattle.hut.proofs.step_value.Tie as tie
-use Rattle.hut.proofs.step_value.Reads as reads
-use Rattle.hut.proofs.step_value.Lts as lts
-use Rattle.dispatch.proofs.state.State.step.Reads as step-reads
-use Rattle.hut.proofs.answers.step_answer.Reads as step-answer-reads
 
--- src/lib.rt:84:9
 step-requires : tie.Need-step-requires
 step-requires c κs = search needs
 
--- src/lib.rt:88:17
 step-answer-requires : tie.Need-step-answer-requires
 step-answer-requires c κs = search needs
 
--- src/lib.rt:81:1
 returns : tie.Need-returns
 unfolding running isSet
 returns c =

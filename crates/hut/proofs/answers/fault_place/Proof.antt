@@ -1,44 +1,33 @@
+-- `fault_place` meets its contract: each case has its own place.
+-- Assumes nothing.
 use borrow.Author.Needs.{needs}
-use native.Mathlib.Omega.{arith}
 use Rattle.hut.proofs.answers.fault_place.Statement.{statement}
 use Rattle.hut.proofs.answers.fault_place.Tie as tie
-use Rattle.hut.proofs.answers.fault_place.Reads as reads
-use Rattle.hut.proofs.answers.fault_place.Lts as lts
-use Rattle.hut.proofs.answers.place_at.Reads as place-at-reads
 
--- src/answers.rt:69:21
 enum-known-f : tie.Need-enum-known-f
 enum-known-f c = search needs
 
--- src/answers.rt:69:33
 place-at-requires : tie.Need-place-at-requires
 place-at-requires c κs = search needs
 
--- src/answers.rt:70:22
 enum-known-f-2 : tie.Need-enum-known-f-2
 enum-known-f-2 c = search needs
 
--- src/answers.rt:70:34
 place-at-requires-2 : tie.Need-place-at-requires-2
 place-at-requires-2 c κs = search needs
 
--- src/answers.rt:71:23
 enum-known-f-3 : tie.Need-enum-known-f-3
 enum-known-f-3 c = search needs
 
--- src/answers.rt:71:38
 place-at-requires-3 : tie.Need-place-at-requires-3
 place-at-requires-3 c κs = search needs
 
--- src/answers.rt:65:1
 returns : tie.Need-returns
 returns c = rw (c .before .before .f .given .1) (c .place-at .ensures)
 
--- src/answers.rt:65:1
 returns-2 : tie.Need-returns-2
 returns-2 c = rw (c .before .before .f2 .given .1) (c .place-at2 .ensures)
 
--- src/answers.rt:65:1
 returns-3 : tie.Need-returns-3
 returns-3 c = rw (c .before .before .f3 .given .1) (c .place-at3 .ensures)
 
