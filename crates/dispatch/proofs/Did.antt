@@ -7,6 +7,7 @@ use lib.Dec.{eqb}
 use borrow.Author.Tests.{eqb-true, eqb-false}
 use Rattle.basics.specs.Choice.{pick}
 use Rattle.basics.specs.Limits.{Limits}
+use Rattle.basics.specs.Marks.{idle}
 use Rattle.dispatch.specs.declared.state.State.{State}
 use Rattle.dispatch.specs.declared.state.Stepped.{Stepped}
 use Rattle.dispatch.specs.declared.answer.Answer.the-variants.{No}
@@ -14,7 +15,6 @@ use Rattle.dispatch.specs.declared.answer.Why.{Why}
 use Rattle.dispatch.specs.declared.answer.Why.the-variants.{BadState, Halted, SameTick, StaleTick, TicksLost, NoJob, PastHigh}
 use Rattle.dispatch.specs.declared.tick.Tick.{Tick}
 use Rattle.dispatch.specs.declared.tick.Tick.the-variants.{Next, Same, Lost, Stale}
-use Rattle.basics.specs.Marks.{idle}
 use Rattle.dispatch.specs.Marks.{isSet}
 use Rattle.dispatch.specs.Scan.{pastHigh}
 use Rattle.dispatch.specs.Tick.{tickOf}

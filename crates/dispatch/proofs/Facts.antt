@@ -3,21 +3,20 @@
 use Prim.Native.Nat.{ℕ, _+_, _-_, _%_, _^_, _≤_, _<_}
 use mathlib.Core.Path.{_≡_, refl, sym, ap, _∙_}
 use mathlib.Core.Bool.{Bool, true, false, _||_}
-use mathlib.Core.List.{List}
 use native.Mathlib.Omega.{arith}
 use lib.ListN.{getD}
-use lib.Dec.{eqb, ltb}
+use lib.Dec.{ltb}
 use borrow.Author.Tests.{ltb-true, leb-true, ne-eqb, lt-ltb}
 use Rattle.basics.specs.Choice.{pick}
 use Rattle.basics.specs.Below.{allOf}
 use Rattle.basics.specs.Limits.{Limits}
 use Rattle.basics.proofs.Choice.{pick-both}
 use Rattle.basics.proofs.Below.{every, all-at}
+use Rattle.basics.specs.Marks.{idle}
 use Rattle.dispatch.specs.declared.plan.Plan.{Plan}
 use Rattle.dispatch.specs.declared.state.State.{State}
-use Rattle.basics.specs.Marks.{idle}
 use Rattle.dispatch.specs.Marks.{isSet}
-use Rattle.dispatch.specs.Scan.{sizesOk, byteOk, slotOk, tablesOk, edgeOk, edgesOk, jobsOk, unitsOk, namedIn}
+use Rattle.dispatch.specs.Scan.{sizesOk, byteOk, slotOk, tablesOk, edgeOk, edgesOk, unitsOk, namedIn}
 use Rattle.dispatch.specs.Tick.{difference}
 use Rattle.dispatch.specs.Machine.{planOk, stateOk, namedOf, moveOf, openFrameOf, withSlot}
 

@@ -1,11 +1,11 @@
 -- A step hands back what memory can hold; so a run by any step that meets the contract of `step` is the run of the machine.
 -- Assumes nothing.
-use Prim.Native.Nat.{ℕ, zero, suc, _+_, _^_, _≤_, _<_}
-use mathlib.Core.Path.{_≡_, refl, sym, ap, subst, _∙_}
+use Prim.Native.Nat.{ℕ, _+_, _^_, _<_}
+use mathlib.Core.Path.{_≡_, refl, ap, _∙_}
 use mathlib.Core.Bool.{Bool, true, false}
 use mathlib.Core.List.{List, [], _∷_}
 use native.Mathlib.Omega.{arith}
-use lib.ListN.{length, getD, set, replicate, length-set, length-replicate}
+use lib.ListN.{set, replicate, length-set, length-replicate}
 use lib.Dec.{ltb}
 use borrow.Author.Tests.{ltb-true}
 use Rattle.basics.specs.Choice.{pick}
@@ -16,7 +16,7 @@ use Rattle.dispatch.specs.declared.state.Stepped.{Stepped}
 use Rattle.dispatch.specs.declared.answer.Answer.{Answer}
 use Rattle.dispatch.specs.Scan.{bump, namedIn, choiceIn}
 use Rattle.dispatch.specs.Machine.{bookOf, moveOf, withSlot, withLast, withHalted, openFrameOf, orderOf, goOf, stepOf}
-use Rattle.dispatch.specs.Runs.{Given, Each, answersBy, stateBy, answersOf, stateOf, Words, HeldPlan, Held}
+use Rattle.dispatch.specs.Runs.{Given, Each, answersBy, stateBy, answersOf, stateOf, Words, Held}
 use Rattle.dispatch.proofs.Did.{refused-has, Did, refused, taken, Booked, was-idle, was-job, did}
 use Rattle.dispatch.proofs.Sound.{set-each, zeros-at}
 

@@ -2,7 +2,7 @@
 -- Assumes nothing.
 use Prim.Native.Nat.{ℕ}
 use mathlib.Core.Path.{_≡_, refl, ap, _∙_}
-use mathlib.Core.Bool.{Bool, true, false}
+use mathlib.Core.Bool.{Bool, true}
 use mathlib.Core.List.{List, [], _∷_}
 use native.Mathlib.Omega.{arith}
 use lib.ListN.{length, replicate}
@@ -10,11 +10,11 @@ use Rattle.basics.specs.Limits.{Limits}
 use Rattle.dispatch.specs.declared.state.State.{State}
 use Rattle.dispatch.specs.declared.state.Stepped.{Stepped}
 use Rattle.dispatch.specs.declared.answer.Answer.{Answer}
-use Rattle.dispatch.specs.declared.answer.Answer.the-variants.{Order, No}
+use Rattle.dispatch.specs.declared.answer.Answer.the-variants.{No}
 use Rattle.dispatch.specs.declared.answer.Why.{Why}
 use Rattle.dispatch.specs.declared.answer.Why.the-variants.{Halted}
 use Rattle.dispatch.specs.Marks.{isSet}
-use Rattle.dispatch.specs.Machine.{stateOk, bookOf, orderOf, goOf, stepOf, says}
+use Rattle.dispatch.specs.Machine.{stateOk, bookOf, orderOf, goOf, stepOf}
 use Rattle.dispatch.specs.Runs.{Given, answersBy, stateBy, answersOf, stateOf, refusedOf}
 use Rattle.dispatch.proofs.Facts.{move-plan}
 use Rattle.dispatch.proofs.Steps.{step-halted}

@@ -1,9 +1,9 @@
 -- The fields of a plan that the reader accepts: they are read where they stand, and the state made of them is sound.
 -- Assumes nothing.
 use Prim.Native.Nat.{ℕ, _+_, _≤_, _<_}
-use mathlib.Core.Path.{_≡_, refl, sym, ap, _∙_}
-use mathlib.Core.Logic.{_⊎_, inl, inr}
-use mathlib.Core.Bool.{Bool, true, false}
+use mathlib.Core.Path.{_≡_, refl, ap, _∙_}
+use mathlib.Core.Logic.{inl, inr}
+use mathlib.Core.Bool.{Bool, true}
 use mathlib.Core.List.{List}
 use native.Mathlib.Nat.{add-zero}
 use native.Mathlib.Omega.{arith}
@@ -17,23 +17,22 @@ use Rattle.basics.specs.Limits.{Limits, firstEdition}
 use Rattle.basics.specs.Marks.{idle}
 use Rattle.joblist.specs.Fields.{jobs, edges, slots, jobAt, edgeAt, listBytes, arrival, deadline, ordinary, high, level, edgeFrom, edgeTo}
 use Rattle.joblist.specs.Accepted.{Accepted}
-use Rattle.joblist.proofs.Accepted.{accepted, list-length}
+use Rattle.joblist.proofs.Accepted.{accepted}
 use Rattle.verdict.proofs.Entries.{getD-any}
 use Rattle.verdict.specs.Demand.{Input, GoodTable}
 use Rattle.planfile.specs.Plan.{listOf, lowOf, highOf}
 use Rattle.planfile.specs.Answer.{readOf}
-use Rattle.planfile.specs.declared.ReadAnswer.{ReadAnswer}
 use Rattle.planfile.specs.declared.ReadAnswer.the-variants.{Plan as IsPlan, No}
 use Rattle.planfile.specs.declared.ReadWhy.{ReadWhy}
 use Rattle.planfile.specs.declared.Shape.{Shape}
 use Rattle.planfile.proofs.Accepted.{read-yes, pair-yes}
 use Rattle.dispatch.specs.declared.plan.Plan.{Plan}
 use Rattle.dispatch.specs.declared.state.State.{State}
-use Rattle.dispatch.specs.Scan.{sizesOk, byteOk, slotOk, tablesOk, edgeOk, edgesOk, jobOk, jobsOk}
-use Rattle.dispatch.specs.Open.{entries, fieldsOf, openedOf, openOf}
-use Rattle.dispatch.specs.Machine.{planOk, stateOk, freshOf, noPlan, noState, stepOf, says}
 use Rattle.dispatch.specs.declared.answer.Answer.the-variants.{No as Refused}
 use Rattle.dispatch.specs.declared.answer.Why.the-variants.{BadState}
+use Rattle.dispatch.specs.Scan.{sizesOk, byteOk, slotOk, tablesOk, edgeOk, edgesOk, jobOk, jobsOk}
+use Rattle.dispatch.specs.Open.{entries, fieldsOf, openOf}
+use Rattle.dispatch.specs.Machine.{planOk, stateOk, freshOf, noPlan, noState, stepOf, says}
 use Rattle.dispatch.specs.Numbers.{answerNumber}
 use Rattle.dispatch.specs.Runs.{Given, Each, answersOf}
 use Rattle.dispatch.proofs.Steps.{step-bad}
@@ -94,34 +93,37 @@ module _ (lim : Limits) (s lo hi : List ℕ) (i : Input lim s lo hi) where
   unfolding edgesOk edgeOk allOf
   edges-good =
       all-each _ _ (λ e l. rw (
-      entries-at (lim .edges) (edgeFrom s (jobs s)) (edges s) (good .mostEdges) e l,
-      entries-at (lim .edges) (edgeTo s (jobs s)) (edges s) (good .mostEdges) e l,
-      lt-ltb _ _ (good .edge e l .from),
-      lt-ltb _ _ (good .edge e l .to)))
+        entries-at (lim .edges) (edgeFrom s (jobs s)) (edges s) (good .mostEdges) e l,
+        entries-at (lim .edges) (edgeTo s (jobs s)) (edges s) (good .mostEdges) e l,
+        lt-ltb _ _ (good .edge e l .from),
+        lt-ltb _ _ (good .edge e l .to),
+      ))
 
   jobs-good : jobsOk lim (entries (lim .jobs) (level s) (jobs s)) (entries (lim .jobs) (ordinary s) (jobs s)) (entries (lim .jobs) (high s) (jobs s)) (jobs s) ≡ true
   unfolding jobsOk jobOk allOf
   jobs-good =
       all-each _ _ (λ j l. rw (
-      entries-at (lim .jobs) (level s) (jobs s) (good .mostJobs) j l,
-      entries-at (lim .jobs) (ordinary s) (jobs s) (good .mostJobs) j l,
-      entries-at (lim .jobs) (high s) (jobs s) (good .mostJobs) j l,
-      le-leb _ _ (good .job j l .known),
-      le-leb (ordinary s j) (lim .budget) (omega (arith, good .job j l .rising, good .job j l .most)),
-      le-leb _ _ (good .job j l .most)))
+        entries-at (lim .jobs) (level s) (jobs s) (good .mostJobs) j l,
+        entries-at (lim .jobs) (ordinary s) (jobs s) (good .mostJobs) j l,
+        entries-at (lim .jobs) (high s) (jobs s) (good .mostJobs) j l,
+        le-leb _ _ (good .job j l .known),
+        le-leb (ordinary s j) (lim .budget) (omega (arith, good .job j l .rising, good .job j l .most)),
+        le-leb _ _ (good .job j l .most),
+      ))
 
   pub fields-sound : planOk lim (fieldsOf lim s lo hi) ≡ true
   unfolding fieldsOf planOk sizesOk allOf
   fields-sound =
       rw (
-      le-leb _ _ (good .oneSlot),
-      le-leb _ _ (good .mostSlots),
-      le-leb _ _ (good .oneJob),
-      le-leb _ _ (good .mostJobs),
-      le-leb _ _ (good .mostEdges),
-      tables-good,
-      edges-good,
-      jobs-good)
+        le-leb _ _ (good .oneSlot),
+        le-leb _ _ (good .mostSlots),
+        le-leb _ _ (good .oneJob),
+        le-leb _ _ (good .mostJobs),
+        le-leb _ _ (good .mostEdges),
+        tables-good,
+        edges-good,
+        jobs-good,
+      )
 
 -- an accepted plan's state is sound
 pub opened-sound : (lim : Limits) (s : List ℕ) (first : ℕ) (w : Shape) → readOf lim s ≡ IsPlan w → stateOk lim (openOf lim s first .state) ≡ true

@@ -11,13 +11,12 @@ use Rattle.basics.specs.Limits.{Limits}
 use Rattle.dispatch.specs.declared.state.State.{State}
 use Rattle.dispatch.specs.declared.state.Stepped.{Stepped}
 use Rattle.dispatch.specs.declared.answer.Answer.{Answer}
-use Rattle.dispatch.specs.declared.answer.Answer.the-variants.{No}
 use Rattle.dispatch.specs.declared.tick.Tick.{Tick}
 use Rattle.dispatch.specs.declared.tick.Tick.the-variants.{Next, Same, Lost, Stale}
 use Rattle.dispatch.specs.Tick.{difference, tickOf}
 use Rattle.dispatch.specs.Machine.{stateOk, bookOf, moveOf, openFrameOf, withSlot, withLast, orderOf, goOf, endOf, nextOf, onTick, stepOf, says}
-use Rattle.dispatch.specs.Runs.{Given, Each, answersBy, stateBy, answersOf, stateOf, laterGiven, laterState, refusedOf}
-use Rattle.dispatch.proofs.Did.{refused-has, Did, refused, taken, Booked, did}
+use Rattle.dispatch.specs.Runs.{Given, Each, answersBy, stateBy, answersOf, stateOf, laterGiven, laterState}
+use Rattle.dispatch.proofs.Did.{refused-has, Did, refused, taken, did}
 
 -- the choice between two values of a function
 pick-map : {A B : Type 0} (f : A → B) (b : Bool) {p q : B} (x y : A) → p ≡ f x → q ≡ f y → pick b p q ≡ f (pick b x y)

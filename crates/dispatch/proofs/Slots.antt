@@ -1,8 +1,8 @@
 -- The slot after k next ticks, for every k; and on next ticks, whatever their numbers, only 34 and 35 refuse.
 -- Assumes nothing.
-use Prim.Native.Nat.{ℕ, zero, suc, _+_, _-_, _%_, _≤_, _<_}
-use mathlib.Core.Path.{_≡_, refl, sym, ap, subst, _∙_}
-use mathlib.Core.Logic.{_⊎_, inl, inr}
+use Prim.Native.Nat.{ℕ, suc, _+_, _-_, _%_, _≤_, _<_}
+use mathlib.Core.Path.{_≡_, refl, sym, ap, _∙_}
+use mathlib.Core.Logic.{inl, inr}
 use mathlib.Core.Bool.{Bool, true, false}
 use mathlib.Core.List.{List, [], _∷_}
 use native.Mathlib.Omega.{arith}
@@ -18,7 +18,6 @@ use Rattle.dispatch.specs.declared.plan.Plan.{Plan}
 use Rattle.dispatch.specs.declared.state.State.{State}
 use Rattle.dispatch.specs.declared.state.Stepped.{Stepped}
 use Rattle.dispatch.specs.declared.answer.Answer.{Answer}
-use Rattle.dispatch.specs.declared.answer.Answer.the-variants.{No}
 use Rattle.dispatch.specs.declared.answer.Why.{Why}
 use Rattle.dispatch.specs.declared.answer.Why.the-variants.{BadState, Halted, SameTick, StaleTick, TicksLost, NoJob, PastHigh}
 use Rattle.dispatch.specs.declared.tick.Tick.the-variants.{Next}
@@ -28,7 +27,7 @@ use Rattle.dispatch.specs.Machine.{planOk, stateOk, bookOf, moveOf, with
 use Rattle.dispatch.specs.Numbers.{numberOf, answerNumber}
 use Rattle.dispatch.specs.Runs.{Given, Each, answersBy, stateBy, answersOf, stateOf, nextTicks, OnlyJobsRefused}
 use Rattle.dispatch.proofs.Facts.{plan-facts, state-facts}
-use Rattle.dispatch.proofs.Did.{Live, Reason, is-bad, is-halted, is-same, is-stale, is-lost, has-no-job, is-past, Did, refused, taken, Booked, was-idle, was-job, did}
+use Rattle.dispatch.proofs.Did.{is-bad, is-halted, is-same, is-stale, is-lost, has-no-job, is-past, Did, refused, taken, was-idle, was-job, did}
 use Rattle.dispatch.proofs.Keeps.{plan-stays}
 use Rattle.dispatch.proofs.Sound.{sound-stays, fresh-sound}
 

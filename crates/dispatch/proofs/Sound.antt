@@ -7,28 +7,24 @@ use mathlib.Core.List.{List, [], _∷_}
 use native.Mathlib.Omega.{arith}
 use lib.ListN.{length, getD, set, replicate}
 use lib.Seq.{getD-set-same, getD-set-other, set-out}
-use lib.Dec.{eqb, ltb, leb}
-use borrow.Author.Tests.{ltb-true, ltb-false, leb-true, le-leb, lt-ltb, eqb-true, eqb-false}
+use lib.Dec.{eqb, ltb}
+use borrow.Author.Tests.{ltb-true, ltb-false, leb-true, le-leb, eqb-true, eqb-false}
 use Rattle.basics.specs.Choice.{pick}
-use Rattle.basics.specs.Below.{allBelow, allOf}
+use Rattle.basics.specs.Below.{allBelow}
 use Rattle.basics.specs.Limits.{Limits}
 use Rattle.basics.proofs.Tests.{not-both}
 use Rattle.basics.proofs.Choice.{pick-both}
 use Rattle.basics.proofs.Below.{all-at}
+use Rattle.basics.specs.Marks.{idle}
 use Rattle.dispatch.specs.declared.plan.Plan.{Plan}
 use Rattle.dispatch.specs.declared.state.State.{State}
 use Rattle.dispatch.specs.declared.state.Stepped.{Stepped}
-use Rattle.dispatch.specs.declared.answer.Answer.{Answer}
-use Rattle.dispatch.specs.declared.answer.Answer.the-variants.{Order, No}
-use Rattle.basics.specs.Marks.{idle}
-use Rattle.dispatch.specs.Marks.{isSet}
 use Rattle.dispatch.specs.Scan.{byteOk, unitsOk, bump, choiceIn}
-use Rattle.dispatch.specs.Tick.{tickOf}
-use Rattle.dispatch.specs.Machine.{planOk, stateOk, bookOf, moveOf, openFrameOf, withSlot, withLast, choiceOf, orderOf, goOf, freshOf, onTick, stepOf}
+use Rattle.dispatch.specs.Machine.{planOk, stateOk, bookOf, moveOf, openFrameOf, withSlot, withLast, orderOf, goOf, freshOf, stepOf}
 use Rattle.dispatch.specs.Numbers.{answerNumber}
-use Rattle.dispatch.specs.Runs.{Given, Each, answersBy, stateBy, answersOf, stateOf, refusedOf}
+use Rattle.dispatch.specs.Runs.{Given, Each, answersBy, answersOf}
 use Rattle.dispatch.proofs.Facts.{plan-facts, state-facts, state-sound, named-ok, job-below}
-use Rattle.dispatch.proofs.Did.{refused-has, Reason, is-bad, is-halted, is-same, is-stale, is-lost, has-no-job, is-past, Did, refused, taken, Booked, was-idle, was-job, did}
+use Rattle.dispatch.proofs.Did.{refused-has, is-bad, is-halted, is-same, is-stale, is-lost, has-no-job, is-past, Did, refused, taken, Booked, was-idle, was-job, did}
 
 -- a test that holds at each number below n
 pub all-each : (f : ℕ → Bool) (n : ℕ) → ((i : ℕ) → i < n → f i ≡ true) → allBelow f n ≡ true

@@ -2,25 +2,24 @@
 -- Assumes nothing.
 use Prim.Native.Nat.{ℕ, _+_, _-_}
 use mathlib.Core.Bool.{Bool, not, _&&_}
-use mathlib.Core.List.{List, [], _∷_}
+use mathlib.Core.List.{[], _∷_}
 use lib.ListN.{getD, set, replicate}
 use lib.Dec.{ltb, leb, eqb}
 use Rattle.basics.specs.Choice.{pick}
 use Rattle.basics.specs.Below.{allOf}
 use Rattle.basics.specs.Limits.{Limits}
 use Rattle.basics.specs.Marks.{idle}
-use Rattle.dispatch.specs.Marks.{isSet}
-use Rattle.dispatch.specs.Scan.{sizesOk, byteOk, tablesOk, edgesOk, jobsOk, unitsOk, namedIn, bump, pastHigh, choiceIn}
-use Rattle.dispatch.specs.Tick.{difference, tickOf}
 use Rattle.dispatch.specs.declared.plan.Plan.{Plan}
 use Rattle.dispatch.specs.declared.state.State.{State}
 use Rattle.dispatch.specs.declared.state.Stepped.{Stepped}
 use Rattle.dispatch.specs.declared.answer.Answer.{Answer}
 use Rattle.dispatch.specs.declared.answer.Answer.the-variants.{Order, No}
-use Rattle.dispatch.specs.declared.answer.Why.{Why}
 use Rattle.dispatch.specs.declared.answer.Why.the-variants.{BadState, Halted, SameTick, StaleTick, TicksLost, NoJob, PastHigh}
 use Rattle.dispatch.specs.declared.tick.Tick.{Tick}
 use Rattle.dispatch.specs.declared.tick.Tick.the-variants.{Next, Same, Lost, Stale}
+use Rattle.dispatch.specs.Marks.{isSet}
+use Rattle.dispatch.specs.Scan.{sizesOk, byteOk, tablesOk, edgesOk, jobsOk, unitsOk, namedIn, bump, pastHigh, choiceIn}
+use Rattle.dispatch.specs.Tick.{difference, tickOf}
 
 -- The state with one field anew.
 abbrev pub withSlot : State → ℕ → State

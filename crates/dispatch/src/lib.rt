@@ -3,6 +3,6 @@
 pub mod answer;
 pub mod open;
 pub mod plan;
-pub mod scan;
+mod scan;
 pub mod state;
 pub mod tick;

@@ -8,9 +8,9 @@ ghost use Rattle.joblist.specs.Fields.{jobs, edges, slots, level, jobAt, listBy
 ghost use Rattle.dispatch.specs.Open.{entries, fieldsOf, openOf};
 use crate::plan::Plan;
 use crate::state::State;
+use joblist::EDGE_BYTES;
 use joblist::HEAD_BYTES;
 use joblist::JOB_BYTES;
-use joblist::EDGE_BYTES;
 use joblist::MOST_EDGES;
 use joblist::MOST_JOBS;
 use joblist::MOST_SLOTS;

@@ -5,10 +5,10 @@ ghost use lib.ListN.{getD};
 ghost use Rattle.basics.specs.Limits.{firstEdition};
 ghost use Rattle.dispatch.specs.Scan.{sizesOk, byteOk, tablesOk, edgesOk, jobsOk, unitsOk, predsDone, namedIn, bump, pastHigh, lateLow, mayRun, choiceIn};
 ghost use Rattle.basics.specs.Marks.{idle};
+use crate::plan::Plan;
 use joblist::MOST_EDGES;
 use joblist::MOST_JOBS;
 use joblist::MOST_SLOTS;
-use crate::plan::Plan;
 
 // The largest budget, and where a count of units stops.
 const BUDGET: u16 = joblist::MOST_BUDGET as u16;
@@ -43,7 +43,12 @@ pub fn byte_ok(n: usize, x: u8) -> bool
 }
 
 // Both tables, at each slot.
-pub fn tables_ok<'a>(lo: &'a [u8; MOST_SLOTS], hi: &'a [u8; MOST_SLOTS], len: usize, n: usize) -> bool
+pub fn tables_ok<'a>(
+    lo: &'a [u8; MOST_SLOTS],
+    hi: &'a [u8; MOST_SLOTS],
+    len: usize,
+    n: usize,
+) -> bool
     requires { ⌜ len ≤ 1024 ⌝ }
     ensures { λ r. ⌜ r ≡ tablesOk (now (lo .entry)) (now (hi .entry)) len n ⌝ }
 {
@@ -61,7 +66,12 @@ pub fn tables_ok<'a>(lo: &'a [u8; MOST_SLOTS], hi: &'a [u8; MOST_SLOTS], len: us
 }
 
 // Both ends of each edge.
-pub fn edges_ok<'a>(from: &'a [u8; MOST_EDGES], to: &'a [u8; MOST_EDGES], m: usize, n: usize) -> bool
+pub fn edges_ok<'a>(
+    from: &'a [u8; MOST_EDGES],
+    to: &'a [u8; MOST_EDGES],
+    m: usize,
+    n: usize,
+) -> bool
     requires { ⌜ m ≤ 256 ⌝ }
     ensures { λ r. ⌜ r ≡ edgesOk (now (from .entry)) (now (to .entry)) m n ⌝ }
 {

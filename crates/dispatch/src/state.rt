@@ -8,11 +8,11 @@ ghost use Rattle.dispatch.specs.Tick.{tickOf};
 ghost use Rattle.dispatch.specs.Machine.{planOk, stateOk, switchOf, haltOf, openFrameOf, bookOf, moveOf, orderOf, goOf, endOf, nextOf, onTick, freshOf, noState, stepOf, says};
 use crate::answer::Answer;
 use crate::answer::Why;
-use joblist::MOST_JOBS;
 use crate::plan::Plan;
 use crate::scan;
 use crate::tick;
 use crate::tick::Tick;
+use joblist::MOST_JOBS;
 
 // Marks are bytes: 0 is clear, anything else set. So every memory content is a state.
 #[repr(C)]
