@@ -1,10 +1,11 @@
 -- Laws of the shared words: two tests that agree answer the same, and one entry more or changed counts as it should.
 -- Assumes nothing.
+use native.Mathlib.Decide.{ℕ-discrete}
 use Prim.Native.Nat.{ℕ, zero, suc, _+_, _-_, _≤_, _<_}
 use mathlib.Core.Path.{_≡_, refl, sym, ap₂}
 use mathlib.Core.Bool.{Bool, true, false, cond, _&&_, _||_}
 use native.Mathlib.Omega.{arith}
-use lib.Dec.{eqb}
+use lib.Dec.{eqb, ltb}
 use Rattle.basics.specs.Choice.{preferred, earliest}
 use Rattle.basics.specs.Turns.{inTurn, turns}
 use Rattle.basics.proofs.Choice.{earliest-step}
@@ -27,6 +28,22 @@ module _ {A : Type 0} (join : A → A → A) (end : A) (f g : ℕ → A) where
   pub turns-same : (n : ℕ) → ((x : ℕ) → x < n → f x ≡ g x) → turns join end f n 0 ≡ turns join end g n 0
   unfolding turns
   turns-same n h = in-turn-same (n - 0) 0 (λ x a b. h x (omega arith))
+
+-- a row of answers is the end where each of them is
+module _ {A : Type 0} (join : A → A → A) (end : A) (split : (x y : A) → join x y ≡ end → (x ≡ end) × (y ≡ end)) (f : ℕ → A) where
+  in-turn-each : (k i x : ℕ) → inTurn join end f k i ≡ end → i ≤ x → x < i + k → f x ≡ end
+  unfolding inTurn
+  in-turn-each zero i x e h l = absurd (omega arith)
+  in-turn-each (suc k) i x e h l =
+      go (ℕ-discrete x i) (λ p. in-turn-each k (i + 1) x (split (f i) (inTurn join end f k (i + 1)) e .1) (omega arith) (omega arith))
+    where
+      go : Dec (x ≡ i) → (¬ (x ≡ i) → f x ≡ end) → f x ≡ end
+      go (yes p) r = rw p (split (f i) (inTurn join end f k (i + 1)) e .0)
+      go (no p) r = r p
+
+  pub turns-each : (n x : ℕ) → turns join end f n 0 ≡ end → x < n → f x ≡ end
+  unfolding turns
+  turns-each n x e h = in-turn-each (n - 0) 0 x e (omega arith) (omega arith)
 
 -- one more job: a ready job is weighed against the choice so far, another is passed over
 module _ (ready : ℕ → Bool) (d : ℕ → ℕ) (n best : ℕ) (so-far : best ≡ earliest ready d n) where

@@ -5,3 +5,9 @@ pub mod Earliest
 pub mod Lateness
 pub mod Moving
 pub mod First
+pub mod EdfTable
+pub mod InTime
+pub mod Later
+pub mod Serves
+pub mod Meaning
+pub mod Kept
