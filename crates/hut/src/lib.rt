@@ -1,0 +1,126 @@
+// The library for firmware in C: each call of the desk, over bytes that the caller lends and one state. include/hut.h declares it.
+ghost use mathlib.Core.Path.{_≡_};
+ghost use lib.ListN.{length};
+ghost use Rattle.basics.specs.Limits.{firstEdition};
+ghost use Rattle.verdict.specs.Answer.{checkOf};
+ghost use Rattle.planfile.specs.Answer.{readOf, writeOf, outAfter};
+ghost use Rattle.merge.specs.Build.{buildOf, outAfter as builtInto};
+ghost use Rattle.dispatch.specs.Marks.{isSet};
+ghost use Rattle.dispatch.specs.Machine.{stepOf};
+ghost use Rattle.dispatch.specs.Open.{openOf};
+ghost use Rattle.hut.specs.Calls.{checkAnswer, readResult, writeAnswer, buildAnswer, stepAnswer, running, opened};
+use dispatch::state::State;
+
+mod answers;
+
+// Where; what a place has not got is Answer::ABSENT.
+#[repr(C)]
+pub struct Place {
+    pub fault: usize,
+    pub slot: usize,
+    pub job: usize,
+    pub pred: usize,
+    pub switched: usize,
+    pub edge: usize,
+}
+
+// The paper's number, 0 for yes, with its place; a step's order; the length of a plan that was built or written.
+#[repr(C)]
+pub struct Answer {
+    pub number: usize,
+    pub place: Place,
+    pub order: usize,
+    pub length: usize,
+}
+
+// What reading answers, with the counts n, m and L on yes.
+#[repr(C)]
+pub struct ReadResult {
+    pub answer: Answer,
+    pub jobs: usize,
+    pub edges: usize,
+    pub slots: usize,
+}
+
+// An answer beside a dispatcher's state.
+#[repr(C)]
+pub struct Running {
+    pub answer: Answer,
+    pub state: State,
+}
+
+impl Answer {
+    // What an answer has not got; as a switch slot it is document 01's own mark of no switch.
+    pub const ABSENT: usize = 65535;
+}
+
+// The check of a list and two tables.
+#[no_mangle]
+pub extern "C" fn hut_check(list: &[u8], lo: &[u8], hi: &[u8]) -> Answer
+    ensures { λ r. ⌜ r ≡ checkAnswer (checkOf firstEdition (now (list .entry)) (now (lo .entry)) (now (hi .entry))) ⌝ }
+{
+    answers::check_answer(verdict::check(list, lo, hi))
+}
+
+// What the bytes are: a plan, with its counts, or why not.
+#[no_mangle]
+pub extern "C" fn hut_read(plan: &[u8]) -> ReadResult
+    ensures { λ r. ⌜ r ≡ readResult (readOf firstEdition (now (plan .entry))) ⌝ }
+{
+    answers::read_result(planfile::read(plan))
+}
+
+// The plan of a list and two tables, at the front of `out`; no byte of it changes where the answer is no.
+#[no_mangle]
+pub extern "C" fn hut_write(list: &[u8], lo: &[u8], hi: &[u8], out: &mut [u8]) -> Answer
+    ensures { λ r. ⌜ (r ≡ writeAnswer (writeOf firstEdition (now (list .entry)) (now (lo .entry)) (now (hi .entry)) (length (now (out .entry)))))
+        × (now (out .exit) ≡ outAfter firstEdition (now (list .entry)) (now (lo .entry)) (now (hi .entry)) (now (out .entry))) ⌝ }
+{
+    answers::write_answer(planfile::write(list, lo, hi, out))
+}
+
+// The plan that the merge method makes of a list, at the front of `out`; no byte of it changes where the answer is no.
+#[no_mangle]
+pub extern "C" fn hut_build(list: &[u8], out: &mut [u8]) -> Answer
+    ensures { λ r. ⌜ (r ≡ buildAnswer (buildOf firstEdition (now (list .entry)) (length (now (out .entry)))))
+        × (now (out .exit) ≡ builtInto firstEdition (now (list .entry)) (now (out .entry))) ⌝ }
+{
+    answers::build_answer(merge::build(list, out))
+}
+
+// A state for the plan in the bytes, whose next tick is `first`: by value, for C to keep. All zero where the answer is no.
+#[no_mangle]
+pub extern "C" fn hut_open(plan: &[u8], first: u16) -> Running
+    ensures { λ r. ⌜ r ≡ opened (openOf firstEdition (now (plan .entry)) first) ⌝ }
+{
+    let o = dispatch::open::open(plan, first);
+    let a = o.answer;
+    let state = o.state;
+    Running {
+        answer: answers::read_answer(a),
+        state: state,
+    }
+}
+
+// Inner: one step of a state by value. An end is signalled by any mark but 0.
+pub fn step_value(s: State, tick: u16, ended: u8) -> Running
+    ensures { λ r. ⌜ r ≡ running (stepOf firstEdition s tick (isSet ended)) ⌝ }
+{
+    let t = s.step(tick, ended != 0);
+    let a = t.answer;
+    let state = t.state;
+    Running {
+        answer: answers::step_answer(a),
+        state: state,
+    }
+}
+
+// One step of the state that C keeps.
+#[no_mangle]
+pub extern "C" fn hut_step(s: &mut State, tick: u16, ended: u8) -> Answer
+    ensures { λ r. ⌜ (r ≡ stepAnswer (stepOf firstEdition (now (s .entry)) tick (isSet ended) .answer)) × (now (s .exit) ≡ stepOf firstEdition (now (s .entry)) tick (isSet ended) .state) ⌝ }
+{
+    let o = step_value(*s, tick, ended);
+    *s = o.state;
+    o.answer
+}
