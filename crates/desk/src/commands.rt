@@ -8,19 +8,19 @@ use crate::list;
 use crate::list::LIST_ROOM;
 use crate::mistake;
 use crate::page;
+use crate::page::put;
+use crate::page::put_number;
+use crate::plan::list_of;
 use crate::runs;
 use crate::slice::part;
 use crate::slice::same;
 use crate::svg;
 use crate::told;
 use crate::told::No;
+use merge::BuildWhy;
 use merge::Built;
-use merge::Reason;
 use planfile::ReadAnswer;
-use planfile::list_of;
 use text::Decimal;
-use text::put;
-use text::put_number;
 
 // No plan has more bytes.
 pub const PLAN_ROOM: usize = 3216;
@@ -29,24 +29,16 @@ pub const PLAN_ROOM: usize = 3216;
 const MOST_MADE: usize = 100000;
 
 // Why nothing was built.
-fn of_reason(r: Reason) -> No {
-    match r {
-        Reason::OfList(w) => told::in_list(joblist::number_of(w), joblist::place_of(w)),
-        Reason::Room => No::bare(46),
-        Reason::LowLate(t, j) => No::at(20, t, j),
-        Reason::HighLate(t, j) => No::at(21, t, j),
-        Reason::Both(t) => No::at_slot(22, t),
-        Reason::Early(t) => No::at_slot(23, t),
-        Reason::Checked(o) => told::at_spot(verdict::number_of(o), verdict::place_of(o)).built(),
-    }
+fn of_why(w: BuildWhy) -> No {
+    told::of_build(merge::why_number(w), merge::why_place(w))
 }
 
 // Builds the list of a text that was read, and says what came of it; the plan's length, or 0.
 pub fn build_list(out: &mut [u8], list: &[u8], text: &[u8], jobs: Jobs, plan: &mut [u8]) -> usize {
     match merge::build(list, plan) {
-        Built::Bytes(k) => k,
-        Built::No(r) => {
-            let at = told::say(out, 0, list, text, jobs, of_reason(r));
+        Built::Plan(k) => k,
+        Built::No(w) => {
+            let at = told::say(out, 0, list, text, jobs, of_why(w));
             page::send(out, at);
             0
         }
@@ -77,17 +69,36 @@ fn say_yes(out: &mut [u8], at: usize, path: &[u8], list: &[u8], size: usize) {
     page::send(out, g);
 }
 
-fn build_in(from: &[u8], to: &[u8], text: &mut [u8], list: &mut [u8], plan: &mut [u8], out: &mut [u8]) {
+fn save(path: &[u8], plan: &[u8], out: &mut [u8]) {
+    if files::write(path, plan, out) {
+        say_yes(out, 0, path, list_of(plan), plan.len());
+    }
+}
+
+fn build_read(to: &[u8], text: &[u8], list: &[u8], jobs: Jobs, plan: &mut [u8], out: &mut [u8]) {
+    let k = build_list(
+        out,
+        part(list, 0, list::edge_at(jobs.n, jobs.m)),
+        text,
+        jobs,
+        plan,
+    );
+    if k != 0 {
+        save(to, part(plan, 0, k), out);
+    }
+}
+
+fn build_in(
+    from: &[u8],
+    to: &[u8],
+    text: &mut [u8],
+    list: &mut [u8],
+    plan: &mut [u8],
+    out: &mut [u8],
+) {
     let jobs = read_jobs(from, text, list, out);
-    if jobs.line != 0 {
-        return;
-    }
-    let k = build_list(out, part(list, 0, list::edge_at(jobs.n, jobs.m)), text, jobs, plan);
-    if k == 0 {
-        return;
-    }
-    if files::write(to, part(plan, 0, k)) {
-        say_yes(out, 0, to, list, k);
+    if jobs.line == 0 {
+        build_read(to, text, list, jobs, plan, out);
     }
 }
 
@@ -115,7 +126,11 @@ fn note(out: &mut [u8], at: usize, plan: &[u8], list: &[u8], jobs: Jobs) -> usiz
     if same(part(list, 0, list::edge_at(jobs.n, jobs.m)), list_of(plan)) {
         return at;
     }
-    page::line(out, at, b"note: the job list is not the plan's; the names are given by order")
+    page::line(
+        out,
+        at,
+        b"note: the job list is not the plan's; the names are given by order",
+    )
 }
 
 // What the check says of a plan: nothing for a yes.
@@ -141,14 +156,32 @@ fn check_plan(path: &[u8], plan: &[u8], text: &[u8], list: &[u8], jobs: Jobs, ou
     page::send(out, b);
 }
 
-fn check_in(path: &[u8], from: &[u8], bytes: &mut [u8], text: &mut [u8], list: &mut [u8], out: &mut [u8]) {
+fn check_named(
+    path: &[u8],
+    from: &[u8],
+    plan: &[u8],
+    text: &mut [u8],
+    list: &mut [u8],
+    out: &mut [u8],
+) {
+    let jobs = names(from, text, list, out);
+    if jobs.line == 0 {
+        check_plan(path, plan, text, list, jobs, out);
+    }
+}
+
+fn check_in(
+    path: &[u8],
+    from: &[u8],
+    bytes: &mut [u8],
+    text: &mut [u8],
+    list: &mut [u8],
+    out: &mut [u8],
+) {
     let Got::Bytes(k) = files::read(path, bytes, out) else {
         return;
     };
-    let jobs = names(from, text, list, out);
-    if jobs.line == 0 {
-        check_plan(path, part(bytes, 0, k), text, list, jobs, out);
-    }
+    check_named(path, from, part(bytes, 0, k), text, list, out);
 }
 
 // desk check PLAN [JOBS]
@@ -182,7 +215,14 @@ pub fn show_plan(out: &mut [u8], at: usize, plan: &[u8], text: &[u8], jobs: Jobs
     let b = draw::counts(out, a, list_of(plan));
     let c = page::end(out, b);
     let d = page::end(out, c);
-    let e = draw::show(out, d, plan, text, jobs, libc::isatty(libc::STDOUT_FILENO) == 1);
+    let e = draw::show(
+        out,
+        d,
+        plan,
+        text,
+        jobs,
+        libc::isatty(libc::STDOUT_FILENO) == 1,
+    );
     say_check(out, e, plan, text, jobs)
 }
 
@@ -200,14 +240,33 @@ fn draw_plan(plan: &[u8], text: &[u8], jobs: Jobs, as_svg: bool, out: &mut [u8])
     page::send(out, b);
 }
 
-fn show_in(path: &[u8], from: &[u8], as_svg: bool, bytes: &mut [u8], text: &mut [u8], list: &mut [u8], out: &mut [u8]) {
+fn show_named(
+    from: &[u8],
+    as_svg: bool,
+    plan: &[u8],
+    text: &mut [u8],
+    list: &mut [u8],
+    out: &mut [u8],
+) {
+    let jobs = names(from, text, list, out);
+    if jobs.line == 0 {
+        draw_plan(plan, text, jobs, as_svg, out);
+    }
+}
+
+fn show_in(
+    path: &[u8],
+    from: &[u8],
+    as_svg: bool,
+    bytes: &mut [u8],
+    text: &mut [u8],
+    list: &mut [u8],
+    out: &mut [u8],
+) {
     let Got::Bytes(k) = files::read(path, bytes, out) else {
         return;
     };
-    let jobs = names(from, text, list, out);
-    if jobs.line == 0 {
-        draw_plan(part(bytes, 0, k), text, jobs, as_svg, out);
-    }
+    show_named(from, as_svg, part(bytes, 0, k), text, list, out);
 }
 
 // desk show PLAN [JOBS] [--svg]
@@ -218,23 +277,32 @@ pub fn show(path: &[u8], from: &[u8], as_svg: bool, out: &mut [u8]) {
     show_in(path, from, as_svg, &mut bytes, &mut text, &mut list, out);
 }
 
-// A job, as a line that `desk build` takes.
-fn list_job(out: &mut [u8], at: usize, list: &[u8], j: usize) -> usize {
+// The window of a job, after its name.
+fn list_window(out: &mut [u8], at: usize, list: &[u8], j: usize) -> usize {
     let a = told::put_name(out, at, list, Jobs::none(), j);
     let b = put(out, a, b" ");
     let c = put_number(out, b, list::arrival(list, j));
     let d = put(out, c, b" ");
-    let e = put_number(out, d, list::deadline(list, j));
+    put_number(out, d, list::deadline(list, j))
+}
+
+// The level and the budgets.
+fn list_budgets(out: &mut [u8], at: usize, list: &[u8], j: usize) -> usize {
     if list::is_high(list, j) {
-        let f = put(out, e, b" high ");
-        let g = put_number(out, f, list::ordinary(list, j));
-        let h = put(out, g, b" ");
-        let i = put_number(out, h, list::high(list, j));
-        return page::end(out, i);
+        let a = put(out, at, b" high ");
+        let b = put_number(out, a, list::ordinary(list, j));
+        let c = put(out, b, b" ");
+        return put_number(out, c, list::high(list, j));
     }
-    let f = put(out, e, b" low ");
-    let g = put_number(out, f, list::ordinary(list, j));
-    page::end(out, g)
+    let a = put(out, at, b" low ");
+    put_number(out, a, list::ordinary(list, j))
+}
+
+// A job, as a line that `desk build` takes.
+fn list_job(out: &mut [u8], at: usize, list: &[u8], j: usize) -> usize {
+    let a = list_window(out, at, list, j);
+    let b = list_budgets(out, a, list, j);
+    page::end(out, b)
 }
 
 fn list_jobs(out: &mut [u8], at: usize, list: &[u8]) -> usize {
@@ -281,13 +349,14 @@ pub fn list(path: &[u8], out: &mut [u8]) {
     list_in(path, &mut bytes, out);
 }
 
-fn run_file(plan: &[u8], ticks: &[u8], text: &[u8], jobs: Jobs, buf: &mut [u8], out: &mut [u8]) {
+fn run_file(plan: &[u8], ticks: &[u8], text: &[u8], jobs: Jobs, out: &mut [u8]) {
     let fd = os::open_read(ticks);
     if fd < 0 {
         os::fail(ticks);
         return;
     }
-    let at = runs::file(out, plan, text, jobs, fd, buf);
+    let mut buf = io::large_buffer();
+    let at = runs::file(out, plan, text, jobs, fd, &mut buf);
     libc::close(fd);
     page::send(out, at);
 }
@@ -299,7 +368,11 @@ fn run_made(plan: &[u8], count: &[u8], text: &[u8], jobs: Jobs, out: &mut [u8]) 
             page::send(out, at);
         }
         Decimal::Not => {
-            let at = page::line(out, 0, b"desk run PLAN --demo N: expected a number N from 0 to 100000");
+            let at = page::line(
+                out,
+                0,
+                b"desk run PLAN --demo N: expected a number N from 0 to 100000",
+            );
             page::complain(out, at);
         }
     }
@@ -314,22 +387,46 @@ fn is_accepted(plan: &[u8], text: &[u8], jobs: Jobs, out: &mut [u8]) -> bool {
     false
 }
 
-fn run_in(path: &[u8], ticks: &[u8], is_made: bool, from: &[u8], bytes: &mut [u8], text: &mut [u8], list: &mut [u8], buf: &mut [u8], out: &mut [u8]) {
-    let Got::Bytes(k) = files::read(path, bytes, out) else {
-        return;
-    };
-    let jobs = names(from, text, list, out);
-    if jobs.line != 0 {
-        return;
-    }
-    if !is_accepted(part(bytes, 0, k), text, jobs, out) {
+fn run_plan(plan: &[u8], ticks: &[u8], is_made: bool, text: &[u8], jobs: Jobs, out: &mut [u8]) {
+    if !is_accepted(plan, text, jobs, out) {
         return;
     }
     if is_made {
-        run_made(part(bytes, 0, k), ticks, text, jobs, out);
+        run_made(plan, ticks, text, jobs, out);
         return;
     }
-    run_file(part(bytes, 0, k), ticks, text, jobs, buf, out);
+    run_file(plan, ticks, text, jobs, out);
+}
+
+fn run_named(
+    ticks: &[u8],
+    is_made: bool,
+    from: &[u8],
+    plan: &[u8],
+    text: &mut [u8],
+    list: &mut [u8],
+    out: &mut [u8],
+) {
+    let jobs = names(from, text, list, out);
+    if jobs.line == 0 {
+        run_plan(plan, ticks, is_made, text, jobs, out);
+    }
+}
+
+fn run_in(
+    path: &[u8],
+    ticks: &[u8],
+    is_made: bool,
+    from: &[u8],
+    bytes: &mut [u8],
+    text: &mut [u8],
+    list: &mut [u8],
+    out: &mut [u8],
+) {
+    let Got::Bytes(k) = files::read(path, bytes, out) else {
+        return;
+    };
+    run_named(ticks, is_made, from, part(bytes, 0, k), text, list, out);
 }
 
 // desk run PLAN TICKS [JOBS], and desk run PLAN --demo N [JOBS]
@@ -337,6 +434,14 @@ pub fn run(path: &[u8], ticks: &[u8], is_made: bool, from: &[u8], out: &mut [u8]
     let mut bytes = io::large_buffer();
     let mut text = io::large_buffer();
     let mut list = [0u8; LIST_ROOM];
-    let mut buf = io::large_buffer();
-    run_in(path, ticks, is_made, from, &mut bytes, &mut text, &mut list, &mut buf, out);
+    run_in(
+        path,
+        ticks,
+        is_made,
+        from,
+        &mut bytes,
+        &mut text,
+        &mut list,
+        out,
+    );
 }

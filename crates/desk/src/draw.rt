@@ -2,17 +2,17 @@
 use crate::jobs::Jobs;
 use crate::list;
 use crate::page;
+use crate::page::put;
+use crate::page::put_number;
+use crate::plan::entries;
+use crate::plan::entry;
+use crate::plan::is_open;
+use crate::plan::list_of;
+use crate::plan::switches;
 use crate::slice::byte_at;
 use crate::slice::less;
 use crate::slice::plus;
 use crate::told::put_name;
-use planfile::high_of;
-use planfile::list_of;
-use planfile::low_of;
-use text::put;
-use text::put_number;
-use verdict::count::entries_before;
-use verdict::count::entry_at;
 
 // A frame of so many slots has wide cells and one block.
 const WIDE: usize = 16;
@@ -36,58 +36,10 @@ struct View {
     in_colour: bool,
 }
 
-// The entry of one of the two tables.
-pub fn entry(plan: &[u8], is_high: bool, t: usize) -> usize {
-    if is_high {
-        return entry_at(high_of(plan), t);
-    }
-    entry_at(low_of(plan), t)
-}
-
-// How many of a table's slots from one to another name a job.
-fn entries(plan: &[u8], is_high: bool, j: usize, from: usize, to: usize) -> usize {
-    if is_high {
-        return less(
-            entries_before(high_of(plan), j, to),
-            entries_before(high_of(plan), j, from),
-        );
-    }
-    less(
-        entries_before(low_of(plan), j, to),
-        entries_before(low_of(plan), j, from),
-    )
-}
-
-// Whether a high job with CHI > CLO has its CLO-th unit in slot t of table LO.
-pub fn switches(plan: &[u8], t: usize) -> bool {
-    let list = list_of(plan);
-    let j = entry(plan, false, t);
-    if list::jobs(list) <= j {
-        return false;
-    }
-    if !list::is_high(list, j) {
-        return false;
-    }
-    let clo = list::ordinary(list, j);
-    if list::high(list, j) <= clo {
-        return false;
-    }
-    entries_before(low_of(plan), j, t) == less(clo, 1)
-}
-
-// Whether job j may run in slot t.
-pub fn is_open(plan: &[u8], j: usize, t: usize) -> bool {
-    let list = list_of(plan);
-    if t < list::arrival(list, j) {
-        return false;
-    }
-    t < list::deadline(list, j)
-}
-
 // Whether a job has something to show in the view.
 fn shows(plan: &[u8], j: usize, v: View) -> bool {
     let list = list_of(plan);
-    if entries(plan, v.is_high, j, v.from, v.to) != 0 {
+    if entries(plan, v.is_high, j, v.from) != entries(plan, v.is_high, j, v.to) {
         return true;
     }
     if v.to <= list::arrival(list, j) {
@@ -201,7 +153,15 @@ fn is_run(plan: &[u8], j: usize, t: usize, is_high: bool) -> bool {
 }
 
 // The inside of slot t.
-fn cell(out: &mut [u8], at: usize, plan: &[u8], j: usize, t: usize, is_high: bool, k: usize) -> usize {
+fn cell(
+    out: &mut [u8],
+    at: usize,
+    plan: &[u8],
+    j: usize,
+    t: usize,
+    is_high: bool,
+    k: usize,
+) -> usize {
     if entry(plan, is_high, t) == j {
         return filled(out, at, marks(plan, t, is_high), k);
     }
@@ -281,20 +241,38 @@ fn unpaint(out: &mut [u8], at: usize, in_colour: bool) -> usize {
     at
 }
 
-// A row: the name, the level, the window and what is in it.
-fn row(out: &mut [u8], at: usize, plan: &[u8], text: &[u8], jobs: Jobs, j: usize, v: View) -> usize {
+// The name and the level.
+fn label(out: &mut [u8], at: usize, plan: &[u8], text: &[u8], jobs: Jobs, j: usize) -> usize {
+    let a = put(out, at, b" ");
+    let b = short_name(out, a, text, jobs, j);
+    level(out, b, plan, j)
+}
+
+// The window, and what is in it.
+fn window(out: &mut [u8], at: usize, plan: &[u8], j: usize, v: View) -> usize {
+    let a = paint(out, at, plan, j, v.in_colour);
+    let b = slots(out, a, plan, j, v);
+    let c = last(out, b, plan, j, v.to);
+    let d = trimmed(out, c);
+    unpaint(out, d, v.in_colour)
+}
+
+// A row of a table.
+fn row(
+    out: &mut [u8],
+    at: usize,
+    plan: &[u8],
+    text: &[u8],
+    jobs: Jobs,
+    j: usize,
+    v: View,
+) -> usize {
     if !shows(plan, j, v) {
         return at;
     }
-    let a = put(out, at, b" ");
-    let b = short_name(out, a, text, jobs, j);
-    let c = level(out, b, plan, j);
-    let d = paint(out, c, plan, j, v.in_colour);
-    let e = slots(out, d, plan, j, v);
-    let f = last(out, e, plan, j, v.to);
-    let g = trimmed(out, f);
-    let h = unpaint(out, g, v.in_colour);
-    page::end(out, h)
+    let a = label(out, at, plan, text, jobs, j);
+    let b = window(out, a, plan, j, v);
+    page::end(out, b)
 }
 
 fn rows(out: &mut [u8], at: usize, plan: &[u8], text: &[u8], jobs: Jobs, v: View) -> usize {
@@ -319,7 +297,15 @@ fn lower(a: usize, b: usize) -> usize {
 }
 
 // Some slots of both tables, LO above HI.
-fn block(out: &mut [u8], at: usize, plan: &[u8], text: &[u8], jobs: Jobs, from: usize, in_colour: bool) -> usize {
+fn block(
+    out: &mut [u8],
+    at: usize,
+    plan: &[u8],
+    text: &[u8],
+    jobs: Jobs,
+    from: usize,
+    in_colour: bool,
+) -> usize {
     let l = list::slots(list_of(plan));
     if l <= from {
         return at;
@@ -354,7 +340,11 @@ fn switch(out: &mut [u8], at: usize, plan: &[u8], text: &[u8], jobs: Jobs, t: us
     let b = put_number(out, a, t);
     let c = put(out, b, b": if ");
     let d = put_name(out, c, text, jobs, entry(plan, false, t));
-    let e = put(out, d, b" has not ended after it, the rest of the frame is table HI's");
+    let e = put(
+        out,
+        d,
+        b" has not ended after it, the rest of the frame is table HI's",
+    );
     page::end(out, e)
 }
 
@@ -376,7 +366,14 @@ pub fn counts(out: &mut [u8], at: usize, list: &[u8]) -> usize {
 }
 
 // The whole picture.
-pub fn show(out: &mut [u8], at: usize, plan: &[u8], text: &[u8], jobs: Jobs, in_colour: bool) -> usize {
+pub fn show(
+    out: &mut [u8],
+    at: usize,
+    plan: &[u8],
+    text: &[u8],
+    jobs: Jobs,
+    in_colour: bool,
+) -> usize {
     let mut to = at;
     for b in 0..BLOCKS {
         to = block(out, to, plan, text, jobs, FOLD * b, in_colour);

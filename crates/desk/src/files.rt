@@ -1,8 +1,8 @@
 // Files, read whole and written whole.
 use crate::page;
+use crate::page::put;
 use crate::slice::part;
 use crate::slice::plus;
-use text::put;
 
 // The bytes that a file may have, one more than is read.
 pub const MOST: usize = 65536;
@@ -114,8 +114,18 @@ fn write_in(name: &mut [u8], path: &[u8], bytes: &[u8]) -> bool {
     write_by(part(name, 0, b), path, bytes)
 }
 
+fn say_unwritten(out: &mut [u8], path: &[u8]) {
+    let a = put(out, 0, path);
+    let b = page::line(out, a, b" was not written");
+    page::complain(out, b);
+}
+
 // Writes a file, whole or not at all: first beside it, as PATH.new, and then by a new name.
-pub fn write(path: &[u8], bytes: &[u8]) -> bool {
+pub fn write(path: &[u8], bytes: &[u8], out: &mut [u8]) -> bool {
     let mut name = [0u8; 4104];
-    write_in(&mut name, path, bytes)
+    if write_in(&mut name, path, bytes) {
+        return true;
+    }
+    say_unwritten(out, path);
+    false
 }

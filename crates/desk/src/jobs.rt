@@ -4,6 +4,7 @@ use crate::list::edge_at;
 use crate::list::field_at;
 use crate::slice::after;
 use crate::slice::byte_at;
+use crate::slice::find;
 use crate::slice::low;
 use crate::slice::part;
 use crate::slice::same;
@@ -11,7 +12,6 @@ use crate::slice::set;
 use crate::slice::set16;
 use joblist::MOST_JOBS;
 use text::Decimal;
-use text::find;
 
 // What is no number of 16 bits.
 pub const NONE: usize = 65536;
@@ -347,7 +347,14 @@ fn pair_at(p: usize, q: usize) -> usize {
 }
 
 // One line, where it is an edge's.
-fn edge_line(s: &[u8], from: usize, to: usize, number: usize, jobs: Jobs, pairs: &mut [u8]) -> Jobs {
+fn edge_line(
+    s: &[u8],
+    from: usize,
+    to: usize,
+    number: usize,
+    jobs: Jobs,
+    pairs: &mut [u8],
+) -> Jobs {
     let line = bare(s, from, to);
     if !same(word(line, 1), b"before") {
         return jobs;
@@ -398,6 +405,13 @@ fn put_edges(list: &mut [u8], n: usize, pairs: &[u8]) -> usize {
     m
 }
 
+fn put_head(list: &mut [u8], n: usize, m: usize, l: usize) {
+    set16(list, 0, n);
+    set16(list, 2, m);
+    set16(list, 4, l);
+    set16(list, 6, 0);
+}
+
 fn read_in(s: &[u8], list: &mut [u8], pairs: &mut [u8]) -> Jobs {
     let named = each_job(s, list);
     if named.line != 0 {
@@ -408,10 +422,7 @@ fn read_in(s: &[u8], list: &mut [u8], pairs: &mut [u8]) -> Jobs {
         return jobs;
     }
     let m = put_edges(list, jobs.n, pairs);
-    set16(list, 0, jobs.n);
-    set16(list, 2, m);
-    set16(list, 4, jobs.slots);
-    set16(list, 6, 0);
+    put_head(list, jobs.n, m, jobs.slots);
     jobs.with_edges(m)
 }
 

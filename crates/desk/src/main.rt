@@ -6,6 +6,7 @@ mod jobs;
 mod list;
 mod mistake;
 mod page;
+mod plan;
 mod runs;
 mod slice;
 mod story;
@@ -15,31 +16,99 @@ mod words;
 
 use slice::same;
 
-// The help, on a page.
-fn help(out: &mut [u8]) {
+// The help, on a page: what there is to do.
+fn help_plans(out: &mut [u8]) -> usize {
     let a = page::line(out, 0, b"desk: plans for jobs of two levels, in slots");
     let b = page::line(out, a, b"");
-    let c = page::line(out, b, b"  desk demo                       the whole story on a small list");
-    let d = page::line(out, c, b"  desk build JOBS PLAN            build the plan of a text job list, or say why not");
-    let e = page::line(out, d, b"  desk check PLAN [JOBS]          yes, or the fault, with the jobs' names");
-    let f = page::line(out, e, b"  desk show PLAN [JOBS] [--svg]   draw both tables, here or as an SVG picture");
-    let g = page::line(out, f, b"  desk run PLAN TICKS [JOBS]      the dispatcher over a text of ticks, a line a step");
-    let h = page::line(out, g, b"  desk run PLAN --demo N [JOBS]   the same over N ticks made here");
-    let i = page::line(out, h, b"  desk list PLAN                  the plan's job list, as text");
-    let j = page::line(out, i, b"  desk words                      every refusal, and what to do about it");
-    page::send(out, j);
-    help_texts(out);
+    let c = page::line(
+        out,
+        b,
+        b"  desk demo                       the whole story on a small list",
+    );
+    let d = page::line(
+        out,
+        c,
+        b"  desk build JOBS PLAN            build the plan of a text job list, or say why not",
+    );
+    page::line(
+        out,
+        d,
+        b"  desk check PLAN [JOBS]          yes, or the fault, with the jobs' names",
+    )
 }
 
-fn help_texts(out: &mut [u8]) {
-    let a = page::line(out, 0, b"");
-    let b = page::line(out, a, b"JOBS has a line a job: NAME arrival deadline low|high CLO [CHI], in slots. A job may");
-    let c = page::line(out, b, b"run from its arrival to the slot before its deadline; a high job may need CHI slots.");
-    let d = page::line(out, c, b"A line NAME before NAME says that one job ends before another begins. Names are 1 to");
-    let e = page::line(out, d, b"32 letters, digits or signs. # begins a comment, and blank lines say nothing.");
-    let f = page::line(out, e, b"TICKS has a line a tick, 0 to 65535, and the word end after it where the job that");
-    let g = page::line(out, f, b"was ordered last has ended. The first tick opens the plan.");
-    page::send(out, g);
+fn help_more(out: &mut [u8], at: usize) -> usize {
+    let a = page::line(
+        out,
+        at,
+        b"  desk show PLAN [JOBS] [--svg]   draw both tables, here or as an SVG picture",
+    );
+    let b = page::line(
+        out,
+        a,
+        b"  desk run PLAN TICKS [JOBS]      the dispatcher over a text of ticks, a line a step",
+    );
+    let c = page::line(
+        out,
+        b,
+        b"  desk run PLAN --demo N [JOBS]   the same over N ticks made here",
+    );
+    let d = page::line(
+        out,
+        c,
+        b"  desk list PLAN                  the plan's job list, as text",
+    );
+    page::line(
+        out,
+        d,
+        b"  desk words                      every refusal, and what to do about it",
+    )
+}
+
+// How the texts are written.
+fn help_jobs(out: &mut [u8], at: usize) -> usize {
+    let a = page::line(out, at, b"");
+    let b = page::line(
+        out,
+        a,
+        b"JOBS has a line a job: NAME arrival deadline low|high CLO [CHI], in slots. A job may",
+    );
+    let c = page::line(
+        out,
+        b,
+        b"run from its arrival to the slot before its deadline; a high job may need CHI slots.",
+    );
+    let d = page::line(
+        out,
+        c,
+        b"A line NAME before NAME says that one job ends before another begins. Names are 1 to",
+    );
+    page::line(
+        out,
+        d,
+        b"32 letters, digits or signs. # begins a comment, and blank lines say nothing.",
+    )
+}
+
+fn help_ticks(out: &mut [u8], at: usize) -> usize {
+    let a = page::line(
+        out,
+        at,
+        b"TICKS has a line a tick, 0 to 65535, and the word end after it where the job that",
+    );
+    page::line(
+        out,
+        a,
+        b"was ordered last has ended. The first tick opens the plan.",
+    )
+}
+
+fn help(out: &mut [u8]) {
+    let a = help_plans(out);
+    let b = help_more(out, a);
+    let c = help_jobs(out, b);
+    let d = help_ticks(out, c);
+    page::send(out, d);
 }
 
 // Which words of the command name files.

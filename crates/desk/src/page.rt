@@ -3,14 +3,22 @@ use crate::slice::less;
 use crate::slice::part;
 use libc::STDERR_FILENO;
 use libc::STDOUT_FILENO;
-use text::put;
-use text::put_number;
 
 // The size of the buffer.
 pub const ROOM: usize = 16384;
 
 // How full it is before it is sent.
 const FULL: usize = 8192;
+
+// Puts bytes at a place, and hands back the next place. What does not fit is not put.
+pub fn put(out: &mut [u8], at: usize, s: &[u8]) -> usize {
+    text::put(out, at, s)
+}
+
+// Puts a number's digits.
+pub fn put_number(out: &mut [u8], at: usize, n: usize) -> usize {
+    text::put_number(out, at, n)
+}
 
 // Sends the text to standard output.
 pub fn send(out: &[u8], at: usize) {

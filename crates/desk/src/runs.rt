@@ -8,8 +8,12 @@ use crate::jobs::number;
 use crate::jobs::word;
 use crate::list;
 use crate::page;
+use crate::page::put;
+use crate::page::put_number;
+use crate::plan::list_of;
 use crate::slice::after;
 use crate::slice::byte_at;
+use crate::slice::find;
 use crate::slice::less;
 use crate::slice::part;
 use crate::slice::plus;
@@ -18,14 +22,11 @@ use crate::slice::set;
 use crate::told::put_name;
 use crate::words;
 use dispatch::answer::Answer;
-use dispatch::answer::Place;
+use dispatch::answer::Why;
 use dispatch::state::State;
 use joblist::MOST_JOBS;
+use joblist::Place;
 use joblist::wide;
-use planfile::list_of;
-use text::find;
-use text::put;
-use text::put_number;
 
 // The tick that the first frame of made ticks begins with: a few before 65535.
 const FIRST: usize = 65530;
@@ -99,7 +100,7 @@ impl Run {
         if self.is_open {
             return self.state;
         }
-        let o = dispatch::open(plan, tick);
+        let o = dispatch::open::open(plan, tick);
         o.state
     }
 }
@@ -129,21 +130,29 @@ fn order(out: &mut [u8], at: usize, text: &[u8], jobs: Jobs, j: usize) -> usize 
     put_name(out, at, text, jobs, j)
 }
 
-fn refusal(out: &mut [u8], at: usize, text: &[u8], jobs: Jobs, a: Answer) -> usize {
-    let number = wide(a.number());
+fn refusal(out: &mut [u8], at: usize, text: &[u8], jobs: Jobs, w: Why) -> usize {
+    let number = dispatch::answer::number_of(w);
     let b = put(out, at, b"no: ");
     let c = put_number(out, b, number);
     let d = put(out, c, b", ");
     let e = words::words(out, d, number);
-    let Place::Job(j) = a.place() else {
+    let Place::AtJob(j) = dispatch::answer::place_of(w) else {
         return e;
     };
     let f = put(out, e, b": ");
-    put_name(out, f, text, jobs, wide(j))
+    put_name(out, f, text, jobs, j)
 }
 
 // What a step answered.
-fn said(out: &mut [u8], at: usize, text: &[u8], jobs: Jobs, a: Answer, slot: usize, high: u8) -> usize {
+fn said(
+    out: &mut [u8],
+    at: usize,
+    text: &[u8],
+    jobs: Jobs,
+    a: Answer,
+    slot: usize,
+    high: u8,
+) -> usize {
     match a {
         Answer::Order(j) => {
             let b = put(out, at, b"slot ");
@@ -151,29 +160,70 @@ fn said(out: &mut [u8], at: usize, text: &[u8], jobs: Jobs, a: Answer, slot: usi
             let d = mode(out, c, high);
             order(out, d, text, jobs, wide(j))
         }
-        Answer::No(_) => refusal(out, at, text, jobs, a),
+        Answer::No(w) => refusal(out, at, text, jobs, w),
     }
 }
 
+// The line of a step.
+fn step_line(
+    out: &mut [u8],
+    at: usize,
+    tick: usize,
+    ended: bool,
+    text: &[u8],
+    jobs: Jobs,
+    a: Answer,
+    slot: usize,
+    high: u8,
+) -> usize {
+    let b = put(out, at, b"tick ");
+    let c = page::right(out, b, tick, 5);
+    let d = mark(out, c, ended);
+    let e = said(out, d, text, jobs, a, slot, high);
+    page::end(out, e)
+}
+
 // One step, and its line.
-fn step(out: &mut [u8], plan: &[u8], text: &[u8], jobs: Jobs, run: Run, tick: u16, ended: bool) -> Run {
+fn step(
+    out: &mut [u8],
+    plan: &[u8],
+    text: &[u8],
+    jobs: Jobs,
+    run: Run,
+    tick: u16,
+    ended: bool,
+) -> Run {
     let r = run.opened(plan, tick).step(tick, ended);
-    let a = put(out, run.at, b"tick ");
-    let b = page::right(out, a, tick as usize, 5);
-    let c = mark(out, b, ended);
-    let d = said(out, c, text, jobs, r.answer, r.state.slot as usize, r.state.high);
-    let e = page::end(out, d);
-    let s = r.state;
-    run.stepped(s, e)
+    let answer = r.answer;
+    let state = r.state;
+    let at = step_line(
+        out,
+        run.at,
+        tick as usize,
+        ended,
+        text,
+        jobs,
+        answer,
+        state.slot as usize,
+        state.high,
+    );
+    run.stepped(state, at)
+}
+
+fn mistake_line(out: &mut [u8], at: usize, line: usize) -> usize {
+    let a = put(out, at, b"line ");
+    let b = put_number(out, a, line);
+    page::line(
+        out,
+        b,
+        b": expected a tick from 0 to 65535, and then nothing or the word end",
+    )
 }
 
 // A line that is no tick.
 fn mistake(out: &mut [u8], run: Run) -> Run {
-    let a = put(out, run.at, b"line ");
-    let b = put_number(out, a, run.line);
-    let c = put(out, b, b": expected a tick from 0 to 65535, and then nothing or the word end");
-    let d = page::end(out, c);
-    run.over(d)
+    let at = mistake_line(out, run.at, run.line);
+    run.over(at)
 }
 
 // Whether a line has a tick, and nothing or a mark after it.
@@ -191,7 +241,14 @@ fn is_tick(line: &[u8]) -> bool {
 }
 
 // One line of the text.
-fn tick_line(out: &mut [u8], plan: &[u8], text: &[u8], jobs: Jobs, before: Run, full: &[u8]) -> Run {
+fn tick_line(
+    out: &mut [u8],
+    plan: &[u8],
+    text: &[u8],
+    jobs: Jobs,
+    before: Run,
+    full: &[u8],
+) -> Run {
     let run = before.next_line();
     let line = bare(full, 0, full.len());
     if word(line, 0).len() == 0 {
@@ -238,26 +295,51 @@ fn last_line(out: &mut [u8], plan: &[u8], text: &[u8], jobs: Jobs, run: Run, buf
     r.over(r.at)
 }
 
+// The lines that have ended; what is left moves to the front.
+fn more_lines(
+    out: &mut [u8],
+    plan: &[u8],
+    text: &[u8],
+    jobs: Jobs,
+    run: Run,
+    have: usize,
+    buf: &mut [u8],
+) -> Run {
+    let r = lines(out, plan, text, jobs, run.used_to(0), part(buf, 0, have));
+    let left = less(have, r.used);
+    shift(buf, r.used, left);
+    r.holding(left)
+}
+
 // One read, and the lines that it ends.
-fn turn(out: &mut [u8], plan: &[u8], text: &[u8], jobs: Jobs, run: Run, fd: i32, buf: &mut [u8]) -> Run {
+fn turn(
+    out: &mut [u8],
+    plan: &[u8],
+    text: &[u8],
+    jobs: Jobs,
+    run: Run,
+    fd: i32,
+    buf: &mut [u8],
+) -> Run {
     match read_more(fd, buf, run.have) {
         Piece::Failed => {
             os::fail(b"desk: the ticks");
             run.over(run.at)
         }
         Piece::End => last_line(out, plan, text, jobs, run, buf),
-        Piece::More(k) => {
-            let have = plus(run.have, k);
-            let r = lines(out, plan, text, jobs, run.used_to(0), part(buf, 0, have));
-            let left = less(have, r.used);
-            shift(buf, r.used, left);
-            r.holding(left)
-        }
+        Piece::More(k) => more_lines(out, plan, text, jobs, run, plus(run.have, k), buf),
     }
 }
 
 // The whole text of a file.
-pub fn file(out: &mut [u8], plan: &[u8], text: &[u8], jobs: Jobs, fd: i32, buf: &mut [u8]) -> usize {
+pub fn file(
+    out: &mut [u8],
+    plan: &[u8],
+    text: &[u8],
+    jobs: Jobs,
+    fd: i32,
+    buf: &mut [u8],
+) -> usize {
     let mut run = Run::new(0);
     for i in 0..TURNS {
         run = turn(out, plan, text, jobs, run, fd, buf);

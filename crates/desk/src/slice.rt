@@ -49,6 +49,11 @@ pub fn part(s: &[u8], a: usize, e: usize) -> &[u8] {
     &s[a..e]
 }
 
+// The first place from `from` on where the byte x stands; the length where there is none.
+pub fn find(s: &[u8], from: usize, x: u8) -> usize {
+    text::find(s, from, x)
+}
+
 pub fn same(a: &[u8], b: &[u8]) -> bool {
     if a.len() != b.len() {
         return false;

@@ -1,19 +1,19 @@
 // The two tables as an SVG picture.
 use crate::draw::counts;
-use crate::draw::entry;
-use crate::draw::switches;
 use crate::jobs::Jobs;
 use crate::list;
 use crate::page;
+use crate::page::put;
+use crate::page::put_number;
+use crate::plan::entry;
+use crate::plan::list_of;
+use crate::plan::switches;
 use crate::slice::byte_at;
 use crate::slice::less;
 use crate::slice::part;
 use crate::slice::plus;
 use crate::told::put_name;
 use joblist::MOST_JOBS;
-use planfile::list_of;
-use text::put;
-use text::put_number;
 
 // Where slot 0 begins, and where the first row of a table of LO begins.
 const LEFT: usize = 150;
@@ -83,34 +83,46 @@ fn attribute(out: &mut [u8], at: usize, s: &[u8], n: usize) -> usize {
     put(out, b, b"\"")
 }
 
-fn rectangle(out: &mut [u8], at: usize, class: &[u8], x: usize, y: usize, w: usize, h: usize) -> usize {
-    let a = put(out, at, b"<rect class=\"");
-    let b = put(out, a, class);
-    let c = attribute(out, b, b"\" x=\"", x);
-    let d = attribute(out, c, b" y=\"", y);
-    let e = attribute(out, d, b" width=\"", w);
-    let f = attribute(out, e, b" height=\"", h);
-    page::line(out, f, b" rx=\"3\"/>")
+// The start of an element, with its class.
+fn element(out: &mut [u8], at: usize, kind: &[u8], class: &[u8]) -> usize {
+    let a = put(out, at, kind);
+    let b = put(out, a, b" class=\"");
+    put(out, b, class)
+}
+
+fn rectangle(
+    out: &mut [u8],
+    at: usize,
+    class: &[u8],
+    x: usize,
+    y: usize,
+    w: usize,
+    h: usize,
+) -> usize {
+    let a = element(out, at, b"<rect", class);
+    let b = attribute(out, a, b"\" x=\"", x);
+    let c = attribute(out, b, b" y=\"", y);
+    let d = attribute(out, c, b" width=\"", w);
+    let e = attribute(out, d, b" height=\"", h);
+    page::line(out, e, b" rx=\"3\"/>")
 }
 
 // A line downwards.
 fn upright(out: &mut [u8], at: usize, class: &[u8], x: usize, from: usize, to: usize) -> usize {
-    let a = put(out, at, b"<line class=\"");
-    let b = put(out, a, class);
-    let c = attribute(out, b, b"\" x1=\"", x);
-    let d = attribute(out, c, b" x2=\"", x);
-    let e = attribute(out, d, b" y1=\"", from);
-    let f = attribute(out, e, b" y2=\"", to);
-    page::line(out, f, b"/>")
+    let a = element(out, at, b"<line", class);
+    let b = attribute(out, a, b"\" x1=\"", x);
+    let c = attribute(out, b, b" x2=\"", x);
+    let d = attribute(out, c, b" y1=\"", from);
+    let e = attribute(out, d, b" y2=\"", to);
+    page::line(out, e, b"/>")
 }
 
 // The start of a text, to its first byte.
 fn text_at(out: &mut [u8], at: usize, class: &[u8], x: usize, y: usize) -> usize {
-    let a = put(out, at, b"<text class=\"");
-    let b = put(out, a, class);
-    let c = attribute(out, b, b"\" x=\"", x);
-    let d = attribute(out, c, b" y=\"", y);
-    put(out, d, b">")
+    let a = element(out, at, b"<text", class);
+    let b = attribute(out, a, b"\" x=\"", x);
+    let c = attribute(out, b, b" y=\"", y);
+    put(out, c, b">")
 }
 
 fn text_end(out: &mut [u8], at: usize) -> usize {
@@ -177,7 +189,14 @@ fn number(out: &mut [u8], at: usize, plan: &[u8], is_high: bool, t: usize) -> us
     }
     let x = x_of(plan, t);
     let y = y_of(plan, is_high, 0);
-    let a = upright(out, at, b"grid", x, less(y, 8), y_of(plan, is_high, list::jobs(list)));
+    let a = upright(
+        out,
+        at,
+        b"grid",
+        x,
+        less(y, 8),
+        y_of(plan, is_high, list::jobs(list)),
+    );
     let b = text_at(out, a, b"small", plus(x, 3), less(y, 10));
     let c = put_number(out, b, t);
     text_end(out, c)
@@ -213,31 +232,50 @@ fn slots(out: &mut [u8], at: usize, plan: &[u8], is_high: bool, j: usize) -> usi
     to
 }
 
-// A bracket: an upright with a short arm at each end.
-fn bracket(out: &mut [u8], at: usize, x: usize, y: usize, arm: &[u8], back: &[u8]) -> usize {
+// Where a bracket begins.
+fn corner(out: &mut [u8], at: usize, x: usize, y: usize) -> usize {
     let a = put(out, at, b"<path class=\"bracket\" d=\"M");
     let b = put_number(out, a, x);
     let c = put(out, b, b" ");
-    let d = put_number(out, c, plus(y, 1));
-    let e = put(out, d, arm);
-    let f = put(out, e, b"v22");
-    let g = put(out, f, back);
-    page::line(out, g, b"\"/>")
+    put_number(out, c, y)
 }
 
-// A row: the name, the window and what is in it.
-fn row(out: &mut [u8], at: usize, plan: &[u8], names: &[u8], jobs: Jobs, is_high: bool, j: usize) -> usize {
+// A bracket: an upright with a short arm at each end.
+fn bracket(out: &mut [u8], at: usize, x: usize, y: usize, arm: &[u8], back: &[u8]) -> usize {
+    let a = corner(out, at, x, plus(y, 1));
+    let b = put(out, a, arm);
+    let c = put(out, b, b"v22");
+    let d = put(out, c, back);
+    page::line(out, d, b"\"/>")
+}
+
+// A job's window, from its arrival to its deadline.
+fn window(out: &mut [u8], at: usize, plan: &[u8], is_high: bool, j: usize) -> usize {
     let list = list_of(plan);
     let y = y_of(plan, is_high, j);
     let from = x_of(plan, list::arrival(list, j));
     let to = x_of(plan, list::deadline(list, j));
-    let a = text_at(out, at, b"name", LEFT - 12, plus(y, 17));
+    let a = rectangle(out, at, b"window", from, plus(y, 3), less(to, from), FILLED);
+    let b = bracket(out, a, plus(from, 5), y, b"h-5", b"h5");
+    bracket(out, b, less(to, 5), y, b"h5", b"h-5")
+}
+
+// A row: the name, the window and what is in it.
+fn row(
+    out: &mut [u8],
+    at: usize,
+    plan: &[u8],
+    names: &[u8],
+    jobs: Jobs,
+    is_high: bool,
+    j: usize,
+) -> usize {
+    let y = plus(y_of(plan, is_high, j), 17);
+    let a = text_at(out, at, b"name", LEFT - 12, y);
     let b = name(out, a, names, jobs, j);
     let c = text_end(out, b);
-    let d = rectangle(out, c, b"window", from, plus(y, 3), less(to, from), FILLED);
-    let e = bracket(out, d, plus(from, 5), y, b"h-5", b"h5");
-    let f = bracket(out, e, less(to, 5), y, b"h5", b"h-5");
-    slots(out, f, plan, is_high, j)
+    let d = window(out, c, plan, is_high, j);
+    slots(out, d, plan, is_high, j)
 }
 
 fn rows(out: &mut [u8], at: usize, plan: &[u8], names: &[u8], jobs: Jobs, is_high: bool) -> usize {
@@ -248,8 +286,23 @@ fn rows(out: &mut [u8], at: usize, plan: &[u8], names: &[u8], jobs: Jobs, is_hig
     to
 }
 
-fn table(out: &mut [u8], at: usize, plan: &[u8], names: &[u8], jobs: Jobs, is_high: bool, title: &[u8]) -> usize {
-    let a = label(out, at, b"title", 20, less(y_of(plan, is_high, 0), 10), title);
+fn table(
+    out: &mut [u8],
+    at: usize,
+    plan: &[u8],
+    names: &[u8],
+    jobs: Jobs,
+    is_high: bool,
+    title: &[u8],
+) -> usize {
+    let a = label(
+        out,
+        at,
+        b"title",
+        20,
+        less(y_of(plan, is_high, 0), 10),
+        title,
+    );
     let b = numbers(out, a, plan, is_high);
     rows(out, b, plan, names, jobs, is_high)
 }
@@ -261,7 +314,14 @@ fn switch(out: &mut [u8], at: usize, plan: &[u8], t: usize) -> usize {
     }
     let n = list::jobs(list_of(plan));
     let x = x_of(plan, plus(t, 1));
-    upright(out, at, b"switch", x, less(y_of(plan, false, 0), 4), y_of(plan, true, n))
+    upright(
+        out,
+        at,
+        b"switch",
+        x,
+        less(y_of(plan, false, 0), 4),
+        y_of(plan, true, n),
+    )
 }
 
 fn each_switch(out: &mut [u8], at: usize, plan: &[u8]) -> usize {
@@ -272,32 +332,57 @@ fn each_switch(out: &mut [u8], at: usize, plan: &[u8]) -> usize {
     to
 }
 
-// The size, and how each kind looks.
-fn head(out: &mut [u8], at: usize, w: usize, h: usize) -> usize {
-    let a = put(out, at, b"<svg xmlns=\"http://www.w3.org/2000/svg\" viewBox=\"0 0 ");
-    let b = put_number(out, a, w);
-    let c = put(out, b, b" ");
-    let d = put_number(out, c, h);
-    let e = attribute(out, d, b"\" width=\"", w);
-    let f = attribute(out, e, b" height=\"", h);
-    let g = page::line(out, f, b">");
-    let i = page::line(out, g, b"<style>text{font:13px ui-monospace,Menlo,Consolas,monospace;fill:#1f2933}");
-    let j = page::line(out, i, b".head{font-size:15px;font-weight:bold}.title{font-weight:bold}.small{font-size:11px;fill:#7b8794}");
-    let k = page::line(out, j, b".name{text-anchor:end}.back{fill:#fff}.window{fill:#eef1f5}.high{fill:#e8590c}.low{fill:#1c7ed6}");
-    let l = page::line(out, k, b".grid{stroke:#e4e7eb}.bracket{fill:none;stroke:#7b8794;stroke-width:1.5}");
-    page::line(out, l, b".switch{stroke:#c2255c;stroke-width:2;stroke-dasharray:5 4}</style>")
+// How each kind looks.
+fn style(out: &mut [u8], at: usize) -> usize {
+    let a = page::line(
+        out,
+        at,
+        b"<style>text{font:13px ui-monospace,Menlo,Consolas,monospace;fill:#1f2933}",
+    );
+    let b = page::line(
+        out,
+        a,
+        b".head{font-size:15px;font-weight:bold}.title{font-weight:bold}.small{font-size:11px;fill:#7b8794}",
+    );
+    let c = page::line(
+        out,
+        b,
+        b".name{text-anchor:end}.back{fill:#fff}.window{fill:#eef1f5}.high{fill:#e8590c}.low{fill:#1c7ed6}",
+    );
+    let d = page::line(
+        out,
+        c,
+        b".grid{stroke:#e4e7eb}.bracket{fill:none;stroke:#7b8794;stroke-width:1.5}",
+    );
+    page::line(
+        out,
+        d,
+        b".switch{stroke:#c2255c;stroke-width:2;stroke-dasharray:5 4}</style>",
+    )
 }
 
-// What the colours say.
+// The size.
+fn head(out: &mut [u8], at: usize, w: usize, h: usize) -> usize {
+    let a = put(out, at, b"<svg xmlns=\"http://www.w3.org/2000/svg");
+    let b = attribute(out, a, b"\" width=\"", w);
+    let c = attribute(out, b, b" height=\"", h);
+    let d = page::line(out, c, b">");
+    let e = style(out, d);
+    rectangle(out, e, b"back", 0, 0, w, h)
+}
+
+// What a colour says.
+fn key(out: &mut [u8], at: usize, class: &[u8], x: usize, s: &[u8]) -> usize {
+    let a = rectangle(out, at, class, x, 46, 18, 14);
+    label(out, a, b"key", plus(x, 24), 58, s)
+}
+
 fn legend(out: &mut [u8], at: usize) -> usize {
-    let a = rectangle(out, at, b"high", 20, 46, 18, 14);
-    let b = label(out, a, b"", 44, 58, b"high job");
-    let c = rectangle(out, b, b"low", 124, 46, 18, 14);
-    let d = label(out, c, b"", 148, 58, b"low job");
-    let e = rectangle(out, d, b"window", 222, 46, 18, 14);
-    let f = label(out, e, b"", 246, 58, b"arrival to deadline");
-    let g = upright(out, f, b"switch", 410, 44, 62);
-    label(out, g, b"", 420, 58, b"from LO to HI")
+    let a = key(out, at, b"high", 20, b"high job");
+    let b = key(out, a, b"low", 124, b"low job");
+    let c = key(out, b, b"window", 222, b"arrival to deadline");
+    let d = upright(out, c, b"switch", 410, 44, 62);
+    label(out, d, b"key", 420, 58, b"from LO to HI")
 }
 
 fn larger(a: usize, b: usize) -> usize {
@@ -307,19 +392,23 @@ fn larger(a: usize, b: usize) -> usize {
     a
 }
 
+// The counts, and what the colours say.
+fn heading(out: &mut [u8], at: usize, list: &[u8]) -> usize {
+    let a = text_at(out, at, b"head", 20, 30);
+    let b = counts(out, a, list);
+    let c = text_end(out, b);
+    legend(out, c)
+}
+
 // The whole picture.
 pub fn picture(out: &mut [u8], at: usize, plan: &[u8], names: &[u8], jobs: Jobs) -> usize {
     let list = list_of(plan);
     let w = larger(540, plus(x_of(plan, list::slots(list)), 24));
     let h = plus(y_of(plan, true, list::jobs(list)), 24);
     let a = head(out, at, w, h);
-    let b = rectangle(out, a, b"back", 0, 0, w, h);
-    let c = text_at(out, b, b"head", 20, 30);
-    let d = counts(out, c, list);
-    let e = text_end(out, d);
-    let f = legend(out, e);
-    let g = table(out, f, plan, names, jobs, false, b"table LO");
-    let i = table(out, g, plan, names, jobs, true, b"table HI");
-    let j = each_switch(out, i, plan);
-    page::line(out, j, b"</svg>")
+    let b = heading(out, a, list);
+    let c = table(out, b, plan, names, jobs, false, b"table LO");
+    let d = table(out, c, plan, names, jobs, true, b"table HI");
+    let e = each_switch(out, d, plan);
+    page::line(out, e, b"</svg>")
 }

@@ -3,10 +3,11 @@ use crate::jobs::Jobs;
 use crate::jobs::name_of;
 use crate::list;
 use crate::page;
+use crate::page::put;
+use crate::page::put_number;
 use crate::words;
 use joblist::Place;
-use text::put;
-use text::put_number;
+use merge::BuildPlace;
 use verdict::Fault;
 use verdict::Spot;
 use verdict::Verdict;
@@ -27,12 +28,12 @@ pub struct No {
 
 impl No {
     // A refusal with no place.
-    pub fn bare(number: usize) -> Self {
+    fn bare(number: usize) -> Self {
         No::at(number, NOWHERE, NOWHERE)
     }
 
     // At a slot, a job, both or neither.
-    pub fn at(number: usize, slot: usize, job: usize) -> Self {
+    fn at(number: usize, slot: usize, job: usize) -> Self {
         No {
             number: number,
             fault: 0,
@@ -44,11 +45,11 @@ impl No {
         }
     }
 
-    pub fn at_slot(number: usize, slot: usize) -> Self {
+    fn at_slot(number: usize, slot: usize) -> Self {
         No::at(number, slot, NOWHERE)
     }
 
-    pub fn at_job(number: usize, job: usize) -> Self {
+    fn at_job(number: usize, job: usize) -> Self {
         No::at(number, NOWHERE, job)
     }
 
@@ -68,15 +69,15 @@ impl No {
         self
     }
 
-    // The builder's 24, with the check's answer.
-    pub fn built(mut self) -> Self {
+    // The builder's number, with the check's behind it.
+    fn built(mut self, number: usize) -> Self {
         self.fault = self.number;
-        self.number = 24;
+        self.number = number;
         self
     }
 }
 
-pub fn in_list(number: usize, p: Place) -> No {
+fn in_list(number: usize, p: Place) -> No {
     match p {
         Place::Nowhere => No::bare(number),
         Place::AtJob(j) => No::at_job(number, j),
@@ -98,6 +99,24 @@ pub fn at_spot(number: usize, s: Spot) -> No {
         Spot::InList(p) => in_list(number, p),
         Spot::AtSlot(t) => No::at_slot(number, t),
         Spot::AtFault(f) => at_fault(number, f),
+    }
+}
+
+// A number with the check's answer behind it.
+fn at_answer(number: usize, v: Verdict) -> No {
+    match v {
+        Verdict::Yes => No::bare(number),
+        Verdict::No(o) => at_spot(verdict::number_of(o), verdict::place_of(o)).built(number),
+    }
+}
+
+// A number with the place that the builder gives it.
+pub fn of_build(number: usize, p: BuildPlace) -> No {
+    match p {
+        BuildPlace::InList(q) => in_list(number, q),
+        BuildPlace::AtJob(t, j) => No::at(number, t, j),
+        BuildPlace::AtSlot(t) => No::at_slot(number, t),
+        BuildPlace::Answer(v) => at_answer(number, v),
     }
 }
 
@@ -136,7 +155,14 @@ fn job_line(out: &mut [u8], at: usize, s: &[u8], text: &[u8], jobs: Jobs, j: usi
 }
 
 // An edge, as it is written in a list.
-pub fn put_edge(out: &mut [u8], at: usize, list: &[u8], text: &[u8], jobs: Jobs, e: usize) -> usize {
+pub fn put_edge(
+    out: &mut [u8],
+    at: usize,
+    list: &[u8],
+    text: &[u8],
+    jobs: Jobs,
+    e: usize,
+) -> usize {
     let a = put_name(out, at, text, jobs, list::edge_from(list, e));
     let b = put(out, a, b" before ");
     put_name(out, b, text, jobs, list::edge_to(list, e))
@@ -170,20 +196,34 @@ fn fault_line(out: &mut [u8], at: usize, fault: usize) -> usize {
     page::end(out, d)
 }
 
+// The number and what it means.
+fn meaning(out: &mut [u8], at: usize, number: usize) -> usize {
+    let a = put(out, at, b"no: refusal ");
+    let b = put_number(out, a, number);
+    let c = put(out, b, b": ");
+    let d = words::words(out, c, number);
+    page::end(out, d)
+}
+
+// Where it is.
+fn place(out: &mut [u8], at: usize, list: &[u8], text: &[u8], jobs: Jobs, no: No) -> usize {
+    let a = job_line(out, at, b"job", text, jobs, no.job);
+    let b = edge_line(out, a, list, text, jobs, no.edge);
+    let c = number_line(out, b, b"slot", no.slot);
+    let d = job_line(out, c, b"waits for", text, jobs, no.waits);
+    switch_line(out, d, no.switch)
+}
+
+fn advice(out: &mut [u8], at: usize, number: usize) -> usize {
+    let a = label(out, at, b"do");
+    let b = words::advice(out, a, number);
+    page::end(out, b)
+}
+
 // A refusal, on a few lines; the first begins with `no`.
 pub fn say(out: &mut [u8], at: usize, list: &[u8], text: &[u8], jobs: Jobs, no: No) -> usize {
-    let a = put(out, at, b"no: refusal ");
-    let b = put_number(out, a, no.number);
-    let c = put(out, b, b": ");
-    let d = words::words(out, c, no.number);
-    let e = page::end(out, d);
-    let f = fault_line(out, e, no.fault);
-    let g = job_line(out, f, b"job", text, jobs, no.job);
-    let h = edge_line(out, g, list, text, jobs, no.edge);
-    let i = number_line(out, h, b"slot", no.slot);
-    let j = job_line(out, i, b"waits for", text, jobs, no.waits);
-    let k = switch_line(out, j, no.switch);
-    let l = label(out, k, b"do");
-    let m = words::advice(out, l, no.number);
-    page::end(out, m)
+    let a = meaning(out, at, no.number);
+    let b = fault_line(out, a, no.fault);
+    let c = place(out, b, list, text, jobs, no);
+    advice(out, c, no.number)
 }

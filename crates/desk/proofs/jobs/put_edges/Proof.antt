@@ -19,20 +19,8 @@ loop-holds c = refl
 byte-at-requires : tie.Need-byte-at-requires Inv-loop μ-loop
 byte-at-requires c κs = tt
 
-edge-at-requires : tie.Need-edge-at-requires Inv-loop μ-loop
-edge-at-requires c κs = tt
-
-mul-set16 : tie.Need-mul-set16 Inv-loop μ-loop
-mul-set16 c = omega arith
-
-add-set16 : tie.Need-add-set16 Inv-loop μ-loop
-add-set16 c = omega arith
-
-set16-requires : tie.Need-set16-requires Inv-loop μ-loop
-set16-requires c κs = tt
-
-after-requires : tie.Need-after-requires Inv-loop μ-loop
-after-requires c κs = tt
+put-pair-requires : tie.Need-put-pair-requires Inv-loop μ-loop
+put-pair-requires c κs = tt
 
 add-i : tie.Need-add-i Inv-loop μ-loop
 add-i c = omega arith
@@ -57,11 +45,7 @@ put-edges-spec =
     μ-loop
     loop-holds
     byte-at-requires
-    edge-at-requires
-    mul-set16
-    add-set16
-    set16-requires
-    after-requires
+    put-pair-requires
     add-i
     loop-less
     loop-again
