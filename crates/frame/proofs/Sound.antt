@@ -14,7 +14,7 @@ use Rattle.basics.proofs.Tests.{and-l, and-r, decide, lie, of-true, truth}
 use Rattle.basics.proofs.Units.{more-up}
 use Rattle.basics.specs.Units.{oneMore, unitsOf}
 use Rattle.frame.proofs.Alike.{More, more-test, opening-more, runs-alike}
-use Rattle.frame.proofs.Beside.{Need, crit-step, need, open!, shut!}
+use Rattle.frame.proofs.Beside.{Need, crit-step, need, open!, shut! }
 use Rattle.frame.proofs.Faults.{faultAt-found, or-found}
 use Rattle.frame.proofs.Step.{next-mode, outran-i, runs-job, runs-unfinished, slot-eq}
 use Rattle.frame.specs.Demand.{Real}

@@ -1,6 +1,6 @@
 -- What an accepted list with its tables says, and what an accepted plan says.
 -- Assumes nothing.
-use Prim.Native.Nat.{ℕ, _-_, _≤_}
+use Prim.Native.Nat.{ℕ, _+_, _-_, _≤_}
 use mathlib.Core.Path.{_≡_, refl}
 use mathlib.Core.List.{List}
 use mathlib.Core.Bool.{Bool, true, false, cond}
@@ -21,40 +21,38 @@ use Rattle.verdict.specs.Answer.{ofList, checkOf}
 use Rattle.verdict.specs.declared.Verdict.{Verdict}
 use Rattle.verdict.specs.declared.Verdict.the-variants.{Yes, No as Objects}
 use Rattle.planfile.specs.Plan.{mark, trailerBytes, planOf, planBytes, leastBytes, mostBytes, listOf, lowOf, highOf}
-use Rattle.planfile.specs.Answer.{need as needed, reading, partsAnswer, readOf, writing}
+use Rattle.planfile.specs.Answer.{need as needed, reading, partsAnswer, readOf, writing, writeOf}
 use Rattle.planfile.specs.declared.ReadAnswer.{ReadAnswer}
 use Rattle.planfile.specs.declared.ReadAnswer.the-variants.{Plan}
 use Rattle.planfile.specs.declared.ReadWhy.{ReadWhy}
 use Rattle.planfile.specs.declared.Shape.{Shape}
 use Rattle.planfile.specs.declared.WriteWhy.the-variants.{Room}
 use Rattle.planfile.specs.declared.Wrote.the-variants.{Bytes, No as Unwritten}
-use Rattle.planfile.proofs.Written.{plan-length}
 
 -- a list and two tables that the check accepts
 module _ (lim : Limits) (s lo hi : List ℕ) (yes : checkOf lim s lo hi ≡ Yes) where
   pub pair-yes : Input lim s lo hi
   pair-yes = yes-good lim s lo hi yes .0
 
-  -- the length of their plan
-  pub pair-length : length (planOf s lo hi) ≡ planBytes (jobs s) (edges s) (slots s)
-  pair-length =
+  -- their plan is no longer than the limits allow
+  pub pair-fits : length s + length lo + length hi + trailerBytes ≤ mostBytes lim
+  pair-fits =
       let p = pair-yes in
-      let n = list-length lim s (p .list) in
-      let l = plan-length s lo hi in
-      omega (arith, p .low .size, p .high .size)
+      let a = accepted lim s (p .list) in
+      omega (arith, list-length lim s (p .list), p .low .size, p .high .size, a .mostJobs, a .mostEdges, a .mostSlots)
 
-  pub pair-most : length (planOf s lo hi) ≤ mostBytes lim
-  pair-most = let a = accepted lim s (pair-yes .list) in
-      omega (arith, pair-length, a .mostJobs, a .mostEdges, a .mostSlots)
-
--- a write that says a length: the check says yes, the length is the plan's, and there is room
-pub wrote-yes : (v : Verdict) (size room k : ℕ) → writing v size room ≡ Bytes k → (v ≡ Yes) × (size ≡ k) × (size ≤ room)
-wrote-yes (Objects w) size room k h = let z : _≡_ {A = ℕ} 0 1 = cc in absurd (omega arith)
-wrote-yes Yes size room k h = go (leb size room) refl h
+said : (v : Verdict) (size room k : ℕ) → writing v size room ≡ Bytes k → (v ≡ Yes) × (size ≡ k) × (size ≤ room)
+said (Objects w) size room k h = let z : _≡_ {A = ℕ} 0 1 = cc in absurd (omega arith)
+said Yes size room k h = go (leb size room) refl h
   where
     go : (b : Bool) → leb size room ≡ b → cond b (Bytes size) (Unwritten Room) ≡ Bytes k → (_≡_ {A = Verdict} Yes Yes) × (size ≡ k) × (size ≤ room)
     go true e g = (refl, (let z : size ≡ k = cc in z), leb-true _ _ e)
     go false e g = let z : _≡_ {A = ℕ} 0 1 = cc in absurd (omega arith)
+
+-- a write that says a length: the check says yes, the length is the plan's, and there is room
+pub wrote-yes : (lim : Limits) (list lo hi : List ℕ) (room size : ℕ) → writeOf lim list lo hi room ≡ Bytes size → (checkOf lim list lo hi ≡ Yes) × (length (planOf list lo hi) ≡ size) × (length (planOf list lo hi) ≤ room)
+unfolding writeOf
+wrote-yes lim list lo hi room size h = said (checkOf lim list lo hi) (length (planOf list lo hi)) room size h
 
 -- a plan that the reader accepts
 pub record Read (lim : Limits) (s : List ℕ) : Type 0 where

@@ -22,7 +22,7 @@ use Rattle.planfile.specs.declared.ReadAnswer.the-variants.{Plan}
 use Rattle.planfile.proofs.Parts.{part-some}
 use Rattle.planfile.proofs.Rows.{parts-plan, read-rest}
 use Rattle.planfile.proofs.Written.{plan-length}
-use Rattle.planfile.proofs.Accepted.{pair-yes, pair-most}
+use Rattle.planfile.proofs.Accepted.{pair-yes, pair-fits}
 use Rattle.planfile.proofs.Trailer.{ends-marked, ends-back}
 use Rattle.planfile.proofs.Front.{front-jobs, front-edges, front-slots, front-list}
 
@@ -81,7 +81,7 @@ module _ (lim : Limits) (small : mostBytes lim < 2 ^ 32) (list lo hi : List ℕ)
 
   back : u32At (planOf list lo hi) (length (planOf list lo hi) - trailerBytes) ≡ length (planOf list lo hi) - trailerBytes
   back =
-      distance (omega (arith, plan-length list lo hi, pair-most lim list lo hi yes))
+      distance (omega (arith, pair-fits lim list lo hi yes))
       ∙ omega (arith, plan-length list lo hi)
 
   front : frontAnswer lim (high (planOf list lo hi)) (planOf list lo hi) (planBytes (jobs (planOf list lo hi)) (edges (planOf list lo hi)) (slots (planOf list lo hi))) ≡ Good
@@ -93,7 +93,7 @@ module _ (lim : Limits) (small : mostBytes lim < 2 ^ 32) (list lo hi : List ℕ)
   pub plan-reads : ReadsBack lim (planOf list lo hi) list lo hi
   plan-reads = record {
     answer = sym (read-rest lim (planOf list lo hi) (rw plan-split long) marked back)
-        ∙ sym (parts-plan lim (planOf list lo hi) _ refl front checked)
+        ∙ sym (parts-plan lim (planOf list lo hi) _ refl front refl refl refl checked)
         ∙ rw plan-split (ap Plan same-counts);
     list-part = rw plan-split whole-list;
     low-part = rw plan-split whole-low;

@@ -29,13 +29,15 @@ module _ (lim : Limits) (s : List ℕ) (whole : ℕ) (size : whole ≡ planBytes
   unfolding partsAnswer
   parts-list w f = rw (← size, f)
 
-  pub parts-check : (w : Objection) → frontAnswer lim (high s) s whole ≡ Good → checkOf lim (listOf s) (lowOf s) (highOf s) ≡ Objects w → No (Checked w) ≡ partsAnswer lim s
-  unfolding partsAnswer
-  parts-check w f v = rw (← size, f, v)
+  -- and `list`, `lo` and `hi` are the parts
+  module _ (good : frontAnswer lim (high s) s whole ≡ Good) {list lo hi : List ℕ} (a : list ≡ listOf s) (b : lo ≡ lowOf s) (c : hi ≡ highOf s) where
+    pub parts-check : (w : Objection) → checkOf lim list lo hi ≡ Objects w → No (Checked w) ≡ partsAnswer lim s
+    unfolding partsAnswer
+    parts-check w v = rw (← size, good, ← a, ← b, ← c, v)
 
-  pub parts-plan : frontAnswer lim (high s) s whole ≡ Good → checkOf lim (listOf s) (lowOf s) (highOf s) ≡ Yes → Plan (shapeOf s) ≡ partsAnswer lim s
-  unfolding partsAnswer
-  parts-plan f v = rw (← size, f, v)
+    pub parts-plan : checkOf lim list lo hi ≡ Yes → Plan (shapeOf s) ≡ partsAnswer lim s
+    unfolding partsAnswer
+    parts-plan v = rw (← size, good, ← a, ← b, ← c, v)
 
 -- reading, 40 to 42
 module _ (lim : Limits) (s : List ℕ) where

@@ -284,9 +284,9 @@ fn read_parts(plan: &[u8]) -> ReadAnswer
         return ReadAnswer::No(ReadWhy::Checked(Objection::OfList(w)));
     }
     let list = list_of(plan);
-    let lo = low_of(plan);
-    let hi = high_of(plan);
-    let v = verdict::check(list, lo, hi);
+    let low = low_of(plan);
+    let high = high_of(plan);
+    let v = verdict::check(list, low, high);
     if let Verdict::No(w) = v {
         return ReadAnswer::No(ReadWhy::Checked(w));
     }

@@ -8,7 +8,6 @@ use native.Mathlib.Omega.{arith}
 use lib.ListN.{getD, length}
 use Rattle.basics.proofs.Below.{count-at-most, entries-else, entries-here}
 use Rattle.basics.specs.Below.{entriesBefore}
-use Rattle.frame.specs.Cases.{job}
 use Rattle.verdict.specs.Count.{entryAt}
 
 -- what is read within a list does not hang on what stands past it

@@ -12,7 +12,6 @@ use lib.ListN.{length}
 use Rattle.basics.specs.Find.{isNone}
 use Rattle.basics.specs.Units.{unitsOf}
 use Rattle.frame.specs.Execution.{waitsFor}
-use Rattle.frame.specs.Search.{owed}
 use Rattle.joblist.specs.Fields.{high, level, ordinary}
 use Rattle.verdict.proofs.Entries.{entries-most}
 use Rattle.verdict.proofs.Find.{first-none, first-some}

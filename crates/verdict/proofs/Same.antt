@@ -17,7 +17,7 @@ use Rattle.basics.specs.Units.{oneMore, unitsOf}
 use Rattle.frame.specs.Execution.{State, nextMode, outran, ready, runs, slotWith, state, step, switchTo, waitsFor}
 use Rattle.frame.specs.Jobs.{Frame}
 use Rattle.frame.specs.Search.{beforeIf, earlyIf, faultAt, faultOf, lateIf, lateJob, orElse, owed, scan}
-use Rattle.joblist.specs.Fields.{arrival, deadline, edges, level}
+use Rattle.joblist.specs.Fields.{arrival, deadline, level}
 use Rattle.verdict.specs.FrameOf.{frameWith}
 
 module _ (s : List ℕ) (n l : ℕ) (lo hi : List ℕ) (edge edge′ : ℕ → ℕ → Bool) (edges : (p q : ℕ) → p < n → q < n → edge p q ≡ edge′ p q) where

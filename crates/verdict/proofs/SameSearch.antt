@@ -14,7 +14,7 @@ use Rattle.frame.specs.Execution.{state}
 use Rattle.frame.specs.Jobs.{Frame}
 use Rattle.frame.specs.Search.{Finding, nothing, orElse, scan}
 use Rattle.frame.specs.TwoLevels.{CLO, eachSwitch, needsHI, searchTwo, switchesHere}
-use Rattle.joblist.specs.Fields.{edges, high, level, ordinary}
+use Rattle.joblist.specs.Fields.{high, level, ordinary}
 use Rattle.verdict.proofs.Same.{Same, job-case, like, more-same, scan-same}
 use Rattle.verdict.specs.FrameOf.{frameWith}
 

@@ -100,7 +100,7 @@ module _ (s lo hi : List ℕ) (n m l : ℕ) (pn : n ≡ jobs s) (pm : m ≡ edge
 
   -- what the search requires of an accepted list and tables of its length
   abbrev pub Searchable : Type 0
-  Searchable = (n ≤ 64) × (l ≤ 1024) × (l ≤ length lo) × (listBytes n m ≤ length s) × Named s n m × Rising s n
+  Searchable = (n ≤ firstEdition .jobs) × (l ≤ firstEdition .slots) × (l ≤ length lo) × (listBytes n m ≤ length s) × Named s n m × Rising s n
 
   pub searchable : Accepted firstEdition s → length lo ≡ l → Searchable
   searchable A a = (

@@ -49,8 +49,14 @@ unfoldable pub namedTold : Bool → Bool → ℕ → ℕ → ℕ → Option ℕ 
 namedTold owed soon t j x o = cond owed (cond soon (Found (Early t j x)) (beforeTold t j x o)) Fine
 
 -- edges as a square of bits: in the row of q whether p comes before it
+abbrev pub pairAt : ℕ → ℕ → ℕ
+pairAt p q = firstEdition .jobs * q + p
+
+abbrev pub pairs : ℕ
+pairs = firstEdition .jobs * firstEdition .jobs
+
 abbrev pub edgeAt : List Bool → ℕ → ℕ → Bool
-edgeAt b p q = getD b (firstEdition .jobs * q + p) false
+edgeAt b p q = getD b (pairAt p q) false
 
 -- the square alone, with no tables
 abbrev pub square : List ℕ → ℕ → List Bool → Frame

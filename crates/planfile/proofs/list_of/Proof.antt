@@ -1,8 +1,7 @@
 -- `list_of` meets its contract: the part at the front, as many bytes as the counts give.
 -- Assumes nothing.
 use borrow.Author.Needs.{needs}
-use mathlib.Core.Path.{sym}
-use mathlib.Core.Path.{_∙_}
+use mathlib.Core.Path.{_∙_, sym}
 use Rattle.planfile.proofs.Parts.{part-none, part-some}
 use Rattle.planfile.proofs.list_of.Statement.{statement}
 use Rattle.planfile.proofs.list_of.Tie as tie

@@ -1,8 +1,7 @@
 -- `low_of` meets its contract: the part after the list, as many bytes as a table has.
 -- Assumes nothing.
 use borrow.Author.Needs.{needs}
-use mathlib.Core.Path.{sym}
-use mathlib.Core.Path.{_∙_}
+use mathlib.Core.Path.{_∙_, sym}
 use Rattle.planfile.proofs.Parts.{part-none, part-some}
 use Rattle.planfile.proofs.low_of.Statement.{statement}
 use Rattle.planfile.proofs.low_of.Tie as tie

@@ -2,8 +2,7 @@
 -- Assumes nothing.
 use borrow.Author.Needs.{needs}
 use native.Mathlib.Omega.{arith}
-use mathlib.Core.Path.{_∙_, sym}
-use mathlib.Core.Path.{ap}
+use mathlib.Core.Path.{_∙_, ap, sym}
 use Rattle.planfile.specs.declared.ReadAnswer.the-variants.{Plan}
 use Rattle.planfile.proofs.Rows.{parts-list, parts-check, parts-plan}
 use Rattle.planfile.proofs.read_parts.Statement.{statement}
@@ -54,7 +53,7 @@ enum-known-v c = search needs
 returns-2 : tie.Need-returns-2
 returns-2 c = let b = c .before .before .before in
     let f = b .before .before .before .before .before .before in
-    parts-check _ _ _ (omega (arith, f .before .slots-of .ensures .0, f .before .before .low-at .ensures .0)) _ (sym (f .check-front .ensures) ∙ b .before .before .before .before .enum-told .given .1) (rw (b .before .before .before .list-of .ensures, b .before .before .low-of .ensures, b .before .high-of .ensures) at (sym (b .check .ensures) ∙ c .before .v .given .1))
+    parts-check _ _ _ (omega (arith, f .before .slots-of .ensures .0, f .before .before .low-at .ensures .0)) (sym (f .check-front .ensures) ∙ b .before .before .before .before .enum-told .given .1) (b .before .before .before .list-of .ensures) (b .before .before .low-of .ensures) (b .before .high-of .ensures) _ (sym (b .check .ensures) ∙ c .before .v .given .1)
 
 enum-told-2 : tie.Need-enum-told-2
 enum-told-2 c = search needs
@@ -65,7 +64,7 @@ shape-of-requires c κs = search needs
 returns-3 : tie.Need-returns-3
 returns-3 c = let b = c .before .before .before in
     let f = b .before .before .before .before .before .before in
-    ap Plan (c .shape-of .ensures) ∙ parts-plan _ _ _ (omega (arith, f .before .slots-of .ensures .0, f .before .before .low-at .ensures .0)) (sym (f .check-front .ensures) ∙ b .before .before .before .before .enum-told .given .1) (rw (b .before .before .before .list-of .ensures, b .before .before .low-of .ensures, b .before .high-of .ensures) at (sym (b .check .ensures) ∙ c .before .enum-told2 .given .1))
+    ap Plan (c .shape-of .ensures) ∙ parts-plan _ _ _ (omega (arith, f .before .slots-of .ensures .0, f .before .before .low-at .ensures .0)) (sym (f .check-front .ensures) ∙ b .before .before .before .before .enum-told .given .1) (b .before .before .before .list-of .ensures) (b .before .before .low-of .ensures) (b .before .high-of .ensures) (sym (b .check .ensures) ∙ c .before .enum-told2 .given .1)
 
 pub read-parts-spec : {M : Type 1} → statement M
 read-parts-spec =

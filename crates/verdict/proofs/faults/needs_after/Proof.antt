@@ -8,6 +8,7 @@ use native.Mathlib.Omega.{arith}
 use borrow.Author.Needs.{needs}
 use lib.Dec.{eqb, leb}
 use lib.ListN.{length, length-set}
+use Rattle.basics.specs.Limits.{firstEdition}
 use Rattle.basics.specs.Units.{unitsOf}
 use Rattle.frame.specs.TwoLevels.{needsHI}
 use Rattle.verdict.proofs.Fill.{fill-more}
@@ -17,7 +18,7 @@ use Rattle.verdict.proofs.faults.needs_after.Statement.{statement}
 use Rattle.verdict.proofs.faults.needs_after.Tie as tie
 
 abbrev Inv-loop : tie.InvT-loop
-Inv-loop list n had k need₀ i₀ need i = (i ≤ n) × (length need ≡ 64) × ((j : ℕ) → j < i → unitsOf need j ≡ needsHI (square list n []) had k j)
+Inv-loop list n had k need₀ i₀ need i = (i ≤ n) × (length need ≡ firstEdition .jobs) × ((j : ℕ) → j < i → unitsOf need j ≡ needsHI (square list n []) had k j)
 
 abbrev μ-loop : tie.MeasureT-loop
 μ-loop list n had k need₀ i₀ need i = n - i

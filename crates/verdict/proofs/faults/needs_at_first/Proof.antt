@@ -4,6 +4,7 @@ use mathlib.Core.Path.{_≡_, refl}
 use Prim.Native.Nat.{_-_, _<_, _≤_, ℕ}
 use native.Mathlib.Omega.{arith}
 use lib.ListN.{length, length-set}
+use Rattle.basics.specs.Limits.{firstEdition}
 use Rattle.basics.specs.Units.{unitsOf}
 use Rattle.joblist.specs.Fields.{ordinary}
 use Rattle.verdict.proofs.Fill.{fill-more}
@@ -11,7 +12,7 @@ use Rattle.verdict.proofs.faults.needs_at_first.Statement.{statement}
 use Rattle.verdict.proofs.faults.needs_at_first.Tie as tie
 
 abbrev Inv-loop : tie.InvT-loop
-Inv-loop list n need₀ i₀ need i = (i ≤ n) × (length need ≡ 64) × ((k : ℕ) → k < i → unitsOf need k ≡ ordinary list k)
+Inv-loop list n need₀ i₀ need i = (i ≤ n) × (length need ≡ firstEdition .jobs) × ((k : ℕ) → k < i → unitsOf need k ≡ ordinary list k)
 
 abbrev μ-loop : tie.MeasureT-loop
 μ-loop list n need₀ i₀ need i = n - i

@@ -9,6 +9,7 @@ use native.Mathlib.Omega.{arith}
 use borrow.Author.Needs.{needs}
 use lib.ListN.{length, length-set, set}
 use Rattle.basics.proofs.Units.{more-off}
+use Rattle.basics.specs.Limits.{firstEdition}
 use Rattle.basics.specs.Units.{oneMore, unitsOf}
 use Rattle.frame.specs.Execution.{state}
 use Rattle.frame.specs.Search.{scan}
@@ -19,7 +20,7 @@ use Rattle.verdict.proofs.faults.scan_from.Statement.{statement}
 use Rattle.verdict.proofs.faults.scan_from.Tie as tie
 
 abbrev Inv-loop : tie.InvT-loop
-Inv-loop list n before lo hi need mode l from x had₀ t₀ q₀ had t q = (t ≤ l) × (length had ≡ 64) × (scan (frameWith list n l lo hi (edgeAt before)) (unitsOf need) (l - from) from (state mode 0 (chainOf x) had₀) ≡ scan (frameWith list n l lo hi (edgeAt before)) (unitsOf need) (l - t) t (state mode q (chainOf x) had))
+Inv-loop list n before lo hi need mode l from x had₀ t₀ q₀ had t q = (t ≤ l) × (length had ≡ firstEdition .jobs) × (scan (frameWith list n l lo hi (edgeAt before)) (unitsOf need) (l - from) from (state mode 0 (chainOf x) had₀) ≡ scan (frameWith list n l lo hi (edgeAt before)) (unitsOf need) (l - t) t (state mode q (chainOf x) had))
 
 abbrev μ-loop : tie.MeasureT-loop
 μ-loop list n before lo hi need mode l from x had₀ t₀ q₀ had t q = l - t

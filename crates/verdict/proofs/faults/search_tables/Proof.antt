@@ -6,6 +6,7 @@ use Prim.Native.Nat.{_-_, ℕ}
 use native.Mathlib.Omega.{arith}
 use borrow.Author.Needs.{needs}
 use lib.ListN.{replicate}
+use Rattle.basics.specs.Limits.{firstEdition}
 use Rattle.basics.specs.Units.{unitsOf}
 use Rattle.frame.specs.Execution.{state}
 use Rattle.frame.specs.Search.{scan}
@@ -37,11 +38,11 @@ returns : tie.Need-returns
 returns c = let a = c .before .before .before .before .before .before .before .before .before .before .args in
     let b = c .before .before .before .before .before .before .square-of .result in
     let need = c .before .before .before .before .before .needs-at-first .result in
-    let first = scan (frameWith (a .list .now) (a .n) (a .l) (a .lo .now) (a .hi .now) (edgeAt b)) (unitsOf need) (a .l) 0 (state 0 0 [] (replicate 64 0)) in
+    let first = scan (frameWith (a .list .now) (a .n) (a .l) (a .lo .now) (a .hi .now) (edgeAt b)) (unitsOf need) (a .l) 0 (state 0 0 [] (replicate (firstEdition .jobs) 0)) in
     let rest = eachSwitch (frameWith (a .list .now) (a .n) (a .l) (a .lo .now) (a .hi .now) (edgeAt b)) (a .l) 0 (replicate (a .n) 0) in
-    let at-0 = ap (λ (k : ℕ). told (scan (frameWith (a .list .now) (a .n) (a .l) (a .lo .now) (a .hi .now) (edgeAt b)) (unitsOf need) k 0 (state 0 0 [] (replicate 64 0)))) (let e : a .l ≡ a .l - 0 = omega arith in e) in
+    let at-0 = ap (λ (k : ℕ). told (scan (frameWith (a .list .now) (a .n) (a .l) (a .lo .now) (a .hi .now) (edgeAt b)) (unitsOf need) k 0 (state 0 0 [] (replicate (firstEdition .jobs) 0)))) (let e : a .l ≡ a .l - 0 = omega arith in e) in
     let g = c .enum-told2 .given .1 in
-    g ∙ sym (ap told (search-same (a .list .now) (a .n) (a .l) (a .lo .now) (a .hi .now) (edgeAt b) (edgeIn (a .list .now) (a .n) (a .m)) (c .before .before .before .before .before .before .square-of .ensures) 64 need (c .before .before .before .before .before .before .before .before .before .before .pre .0) (c .before .before .before .before .before .needs-at-first .ensures)) ∙ told-found first rest _ (at-0 ∙ sym (c .before .before .scan-from .ensures) ∙ g))
+    g ∙ sym (ap told (search-same (a .list .now) (a .n) (a .l) (a .lo .now) (a .hi .now) (edgeAt b) (edgeIn (a .list .now) (a .n) (a .m)) (c .before .before .before .before .before .before .square-of .ensures) (firstEdition .jobs) need (c .before .before .before .before .before .before .before .before .before .before .pre .0) (c .before .before .before .before .before .needs-at-first .ensures)) ∙ told-found first rest _ (at-0 ∙ sym (c .before .before .scan-from .ensures) ∙ g))
 
 switches-from-requires : tie.Need-switches-from-requires
 switches-from-requires c κs = (omega arith, omega arith, omega arith, omega arith, c .before .before .before .before .before .before .before .before .before .before .before .pre .5)
@@ -50,10 +51,10 @@ returns-2 : tie.Need-returns-2
 returns-2 c = let a = c .before .before .before .before .before .before .before .before .before .before .before .before .args in
     let b = c .before .before .before .before .before .before .before .before .square-of .result in
     let need = c .before .before .before .before .before .before .before .needs-at-first .result in
-    let first = scan (frameWith (a .list .now) (a .n) (a .l) (a .lo .now) (a .hi .now) (edgeAt b)) (unitsOf need) (a .l) 0 (state 0 0 [] (replicate 64 0)) in
+    let first = scan (frameWith (a .list .now) (a .n) (a .l) (a .lo .now) (a .hi .now) (edgeAt b)) (unitsOf need) (a .l) 0 (state 0 0 [] (replicate (firstEdition .jobs) 0)) in
     let rest = eachSwitch (frameWith (a .list .now) (a .n) (a .l) (a .lo .now) (a .hi .now) (edgeAt b)) (a .l) 0 (replicate (a .n) 0) in
-    let at-0 = ap (λ (k : ℕ). told (scan (frameWith (a .list .now) (a .n) (a .l) (a .lo .now) (a .hi .now) (edgeAt b)) (unitsOf need) k 0 (state 0 0 [] (replicate 64 0)))) (let e : a .l ≡ a .l - 0 = omega arith in e) in
-    c .switches-from .ensures ∙ sym (ap told ((search-same (a .list .now) (a .n) (a .l) (a .lo .now) (a .hi .now) (edgeAt b) (edgeIn (a .list .now) (a .n) (a .m)) (c .before .before .before .before .before .before .before .before .square-of .ensures) 64 need (c .before .before .before .before .before .before .before .before .before .before .before .before .pre .0) (c .before .before .before .before .before .before .before .needs-at-first .ensures)) ∙ told-then first rest (at-0 ∙ sym (c .before .before .before .before .scan-from .ensures) ∙ c .before .before .enum-told .given .1)))
+    let at-0 = ap (λ (k : ℕ). told (scan (frameWith (a .list .now) (a .n) (a .l) (a .lo .now) (a .hi .now) (edgeAt b)) (unitsOf need) k 0 (state 0 0 [] (replicate (firstEdition .jobs) 0)))) (let e : a .l ≡ a .l - 0 = omega arith in e) in
+    c .switches-from .ensures ∙ sym (ap told ((search-same (a .list .now) (a .n) (a .l) (a .lo .now) (a .hi .now) (edgeAt b) (edgeIn (a .list .now) (a .n) (a .m)) (c .before .before .before .before .before .before .before .before .square-of .ensures) (firstEdition .jobs) need (c .before .before .before .before .before .before .before .before .before .before .before .before .pre .0) (c .before .before .before .before .before .before .before .needs-at-first .ensures)) ∙ told-then first rest (at-0 ∙ sym (c .before .before .before .before .scan-from .ensures) ∙ c .before .before .enum-told .given .1)))
 
 pub search-tables-spec : {M : Type 1} → statement M
 search-tables-spec =

@@ -2,23 +2,23 @@
 -- Assumes nothing.
 use mathlib.Core.Bool.{Bool, false}
 use mathlib.Core.Path.{_∙_, _≡_, ap, refl, sym}
-use Prim.Native.Nat.{_*_, _+_, _-_, _<_, _≤_, ℕ}
+use Prim.Native.Nat.{_-_, _<_, _≤_, ℕ}
 use native.Mathlib.Omega.{arith}
 use lib.ListN.{getD-replicate, length, length-set}
 use Rattle.joblist.specs.Fields.{edgeIn}
 use Rattle.verdict.proofs.Square.{edge-more, edge-zero}
-use Rattle.verdict.specs.Inner.{edgeAt, square}
+use Rattle.verdict.specs.Inner.{edgeAt, pairAt, pairs}
 use Rattle.verdict.proofs.faults.square_of.Statement.{statement}
 use Rattle.verdict.proofs.faults.square_of.Tie as tie
 
 abbrev Inv-loop : tie.InvT-loop
-Inv-loop list n m square₀ e₀ square e = (e ≤ m) × (length square ≡ 4096) × ((p q : ℕ) → p < n → q < n → edgeAt square p q ≡ edgeIn list n e p q)
+Inv-loop list n m square₀ e₀ square e = (e ≤ m) × (length square ≡ pairs) × ((p q : ℕ) → p < n → q < n → edgeAt square p q ≡ edgeIn list n e p q)
 
 abbrev μ-loop : tie.MeasureT-loop
 μ-loop list n m square₀ e₀ square e = m - e
 
 loop-holds : tie.Need-loop-holds Inv-loop μ-loop
-loop-holds c = let a = c .before .args in (omega arith, refl, λ p q h k. getD-replicate {A = Bool} 4096 (64 * q + p) false false (omega arith) ∙ sym (edge-zero (a .list .now) (a .n) p q))
+loop-holds c = let a = c .before .args in (omega arith, refl, λ p q h k. getD-replicate {A = Bool} pairs (pairAt p q) false false (omega arith) ∙ sym (edge-zero (a .list .now) (a .n) p q))
 
 edge-from-requires : tie.Need-edge-from-requires Inv-loop μ-loop
 edge-from-requires c κs = omega arith

@@ -5,6 +5,7 @@ use Prim.Native.Nat.{_-_, _<_, _≤_, min, ℕ}
 use native.Mathlib.Omega.{arith}
 use borrow.Author.Needs.{needs}
 use lib.ListN.{length, length-set}
+use Rattle.basics.specs.Limits.{firstEdition}
 use Rattle.basics.specs.Units.{unitsOf}
 use Rattle.joblist.specs.Fields.{ordinary}
 use Rattle.verdict.proofs.Fill.{fill-more}
@@ -13,7 +14,7 @@ use Rattle.verdict.proofs.faults.units_before.Statement.{statement}
 use Rattle.verdict.proofs.faults.units_before.Tie as tie
 
 abbrev Inv-loop : tie.InvT-loop
-Inv-loop list n lo slot had₀ i₀ had i = (i ≤ n) × (length had ≡ 64) × ((k : ℕ) → k < i → unitsOf had k ≡ min (ordinary list k) (entriesIn lo k slot))
+Inv-loop list n lo slot had₀ i₀ had i = (i ≤ n) × (length had ≡ firstEdition .jobs) × ((k : ℕ) → k < i → unitsOf had k ≡ min (ordinary list k) (entriesIn lo k slot))
 
 abbrev μ-loop : tie.MeasureT-loop
 μ-loop list n lo slot had₀ i₀ had i = n - i

@@ -1,0 +1,75 @@
+use Rattle.joblist.specs.Fields.{level}
+use Rattle.dispatch.proofs.Entries.{entries-none, entries-turn, entries-done}
+use Rattle.dispatch.specs.Open.{entries}
+use lib.ListN.{getD}
+use mathlib.Core.Path.{_≡_, refl}
+use Prim.Native.Nat.{_+_, _-_, _≤_}
+use borrow.Author.Needs.{needs}
+use native.Mathlib.Omega.{arith}
+use Rattle.dispatch.proofs.open.levels.Statement.{statement}
+use Rattle.dispatch.proofs.open.levels.Tie as tie
+use Rattle.dispatch.proofs.open.levels.Reads as reads
+use Rattle.dispatch.proofs.open.levels.Lts as lts
+
+abbrev Inv-loop : tie.InvT-loop
+Inv-loop list n out₀ j₀ out j = (j ≤ n) × (out ≡ entries 64 (level list) j)
+
+abbrev μ-loop : tie.MeasureT-loop
+μ-loop list n out₀ j₀ out j = n - j
+
+-- src/open.rt:42:5
+loop-holds : tie.Need-loop-holds Inv-loop μ-loop
+loop-holds c = (omega arith, entries-none _ _)
+
+-- src/open.rt:43:36
+mul-out : tie.Need-mul-out Inv-loop μ-loop
+mul-out c = omega arith
+
+-- src/open.rt:43:23
+add-out : tie.Need-add-out Inv-loop μ-loop
+add-out c = omega arith
+
+-- src/open.rt:43:23
+add-out-2 : tie.Need-add-out-2 Inv-loop μ-loop
+add-out-2 c = omega arith
+
+-- src/open.rt:43:18
+shared-slice-read-out : tie.Need-shared-slice-read-out Inv-loop μ-loop
+shared-slice-read-out c = omega arith
+
+-- src/open.rt:43:9
+array-write-out : tie.Need-array-write-out Inv-loop μ-loop
+array-write-out c = omega arith
+
+-- src/open.rt:42:9
+add-j : tie.Need-add-j Inv-loop μ-loop
+add-j c = omega arith
+
+-- src/open.rt:42:5
+loop-less : tie.Need-loop-less Inv-loop μ-loop
+loop-less c = omega arith
+
+-- src/open.rt:42:5
+loop-again : tie.Need-loop-again Inv-loop μ-loop
+loop-again c = (omega arith, entries-turn _ _ _ _ _ (c .before .before .loop .inv .1) refl)
+
+-- src/open.rt:37:1
+returns : tie.Need-returns Inv-loop μ-loop
+returns c = entries-done _ _ _ _ _ (c .before .loop .inv .0) (c .loop-test .left) (c .before .loop .inv .1)
+
+pub levels-spec : {M : Type 1} → statement M
+levels-spec =
+    tie.close
+    (tie.spec
+    Inv-loop
+    μ-loop
+    loop-holds
+    mul-out
+    add-out
+    add-out-2
+    shared-slice-read-out
+    array-write-out
+    add-j
+    loop-less
+    loop-again
+    returns)

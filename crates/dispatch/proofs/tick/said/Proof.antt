@@ -1,0 +1,45 @@
+use Rattle.dispatch.proofs.Facts.{difference-is}
+use Rattle.dispatch.specs.Tick.{tickOf, difference}
+use Rattle.basics.specs.Choice.{pick}
+use mathlib.Core.Path.{_≡_, refl, sym, ap, _∙_}
+use borrow.Author.Tests.{lt-ltb, le-ltb, le-leb, lt-leb, eq-eqb, ne-eqb, not-true, not-false}
+use borrow.Author.Needs.{needs}
+use native.Mathlib.Omega.{arith}
+use Rattle.dispatch.proofs.tick.said.Statement.{statement}
+use Rattle.dispatch.proofs.tick.said.Tie as tie
+use Rattle.dispatch.proofs.tick.said.Reads as reads
+use Rattle.dispatch.proofs.tick.said.Lts as lts
+use Rattle.std.proofs.num.wrapping_sub_u16.Reads as wrapping-sub-u16-reads
+
+-- the difference, from what the wrapping subtract ensures
+diff : (c : tie.After-wrapping-sub-u16) → c .wrapping-sub-u16 .result ≡ difference (c .before .args .tick) (c .before .args .last)
+diff c =
+    difference-is (c .wrapping-sub-u16 .result) (c .before .args .tick) (c .before .args .last)
+    (omega arith) (omega arith) (omega arith) (c .wrapping-sub-u16 .ensures)
+
+-- src/tick.rt:19:9
+wrapping-sub-u16-requires : tie.Need-wrapping-sub-u16-requires
+wrapping-sub-u16-requires c κs = search needs
+
+-- src/tick.rt:21:9
+returns : tie.Need-returns
+unfolding tickOf pick
+returns c = simp (eq-eqb _ _ (sym (diff (c .before)) ∙ c .if1 .taken))
+
+-- src/tick.rt:24:9
+returns-2 : tie.Need-returns-2
+unfolding tickOf pick
+returns-2 c = simp (ne-eqb _ _ (λ e. c .before .if1 .left (diff (c .before .before) ∙ e)), eq-eqb _ _ (sym (diff (c .before .before)) ∙ c .if2 .taken))
+
+-- src/tick.rt:27:9
+returns-3 : tie.Need-returns-3
+unfolding tickOf pick
+returns-3 c = simp (ne-eqb _ _ (λ e. c .before .before .if1 .left (diff (c .before .before .before) ∙ e)), ne-eqb _ _ (λ e. c .before .if2 .left (diff (c .before .before .before) ∙ e)), lt-ltb _ _ (rw (diff (c .before .before .before)) at (c .if3 .taken)))
+
+-- src/tick.rt:16:1
+returns-4 : tie.Need-returns-4
+unfolding tickOf pick
+returns-4 c = simp (ne-eqb _ _ (λ e. c .before .before .if1 .left (diff (c .before .before .before) ∙ e)), ne-eqb _ _ (λ e. c .before .if2 .left (diff (c .before .before .before) ∙ e)), le-ltb _ _ (rw (diff (c .before .before .before)) at (c .if3 .left)))
+
+pub said-spec : {M : Type 1} → statement M
+said-spec = tie.close (tie.spec wrapping-sub-u16-requires returns returns-2 returns-3 returns-4)

@@ -1,0 +1,2 @@
+pub mod TableHi
+pub mod Runs
