@@ -10,6 +10,7 @@ use crate::mistake;
 use crate::page;
 use crate::page::put;
 use crate::page::put_number;
+use crate::plan;
 use crate::plan::list_of;
 use crate::runs;
 use crate::slice::part;
@@ -33,9 +34,13 @@ fn of_why(w: BuildWhy) -> No {
     told::of_build(merge::why_number(w), merge::why_place(w))
 }
 
+fn built(list: &[u8], plan: &mut [u8]) -> Built {
+    merge::build(list, plan)
+}
+
 // Builds the list of a text that was read, and says what came of it; the plan's length, or 0.
 pub fn build_list(out: &mut [u8], list: &[u8], text: &[u8], jobs: Jobs, plan: &mut [u8]) -> usize {
-    match merge::build(list, plan) {
+    match built(list, plan) {
         Built::Plan(k) => k,
         Built::No(w) => {
             let at = told::say(out, 0, list, text, jobs, of_why(w));
@@ -135,7 +140,7 @@ fn note(out: &mut [u8], at: usize, plan: &[u8], list: &[u8], jobs: Jobs) -> usiz
 
 // What the check says of a plan: nothing for a yes.
 fn say_check(out: &mut [u8], at: usize, plan: &[u8], text: &[u8], jobs: Jobs) -> usize {
-    match planfile::read(plan) {
+    match plan::read(plan) {
         ReadAnswer::Plan(_) => at,
         ReadAnswer::No(w) => {
             let no = told::at_spot(planfile::read_why_number(w), planfile::read_why_place(w));
@@ -194,7 +199,7 @@ pub fn check(path: &[u8], from: &[u8], out: &mut [u8]) {
 
 // Whether a plan is whole, though the check may find a fault in its tables.
 fn is_whole(plan: &[u8]) -> bool {
-    let n = planfile::read_number(planfile::read(plan));
+    let n = plan::refusal(plan);
     if n == 0 {
         return true;
     }
@@ -380,7 +385,7 @@ fn run_made(plan: &[u8], count: &[u8], text: &[u8], jobs: Jobs, out: &mut [u8]) 
 
 // Whether a plan is accepted; says why where it is not.
 fn is_accepted(plan: &[u8], text: &[u8], jobs: Jobs, out: &mut [u8]) -> bool {
-    if planfile::read_number(planfile::read(plan)) == 0 {
+    if plan::refusal(plan) == 0 {
         return true;
     }
     refuse(plan, text, jobs, out);

@@ -1,10 +1,21 @@
 // What a plan's bytes say of its tables: nothing is asked of a caller.
 use crate::list;
 use crate::slice::less;
+use planfile::ReadAnswer;
 use planfile::high_of;
 use planfile::low_of;
 use verdict::count::entries_before;
 use verdict::count::entry_at;
+
+// What reading says: a plan, or why not.
+pub fn read(plan: &[u8]) -> ReadAnswer {
+    planfile::read(plan)
+}
+
+// The number of a refusal: 0 for a plan.
+pub fn refusal(plan: &[u8]) -> usize {
+    planfile::read_number(read(plan))
+}
 
 // The list of a plan.
 pub fn list_of(plan: &[u8]) -> &[u8] {

@@ -24,6 +24,7 @@ use crate::words;
 use dispatch::answer::Answer;
 use dispatch::answer::Why;
 use dispatch::state::State;
+use dispatch::state::Stepped;
 use joblist::MOST_JOBS;
 use joblist::Place;
 use joblist::wide;
@@ -52,7 +53,7 @@ pub struct Run {
 impl Run {
     pub fn new(at: usize) -> Self {
         Run {
-            state: State::zero(),
+            state: no_state(),
             at: at,
             line: 0,
             have: 0,
@@ -100,9 +101,22 @@ impl Run {
         if self.is_open {
             return self.state;
         }
-        let o = dispatch::open::open(plan, tick);
-        o.state
+        opened_at(plan, tick)
     }
+}
+
+// The dispatcher's calls: a state before the first tick, one opened at it, and a step.
+fn no_state() -> State {
+    State::zero()
+}
+
+fn opened_at(plan: &[u8], tick: u16) -> State {
+    let o = dispatch::open::open(plan, tick);
+    o.state
+}
+
+fn stepped(state: State, tick: u16, ended: bool) -> Stepped {
+    state.step(tick, ended)
 }
 
 fn u16_of(n: usize) -> u16 {
@@ -193,7 +207,7 @@ fn step(
     tick: u16,
     ended: bool,
 ) -> Run {
-    let r = run.opened(plan, tick).step(tick, ended);
+    let r = stepped(run.opened(plan, tick), tick, ended);
     let answer = r.answer;
     let state = r.state;
     let at = step_line(

@@ -361,14 +361,21 @@ fn style(out: &mut [u8], at: usize) -> usize {
     )
 }
 
-// The size.
+// The size, in which the picture is drawn and may be scaled.
+fn size(out: &mut [u8], at: usize, w: usize, h: usize) -> usize {
+    let a = attribute(out, at, b" width=\"", w);
+    let b = attribute(out, a, b" height=\"", h);
+    let c = put(out, b, b" viewBox=\"0 0 ");
+    let d = put_number(out, c, w);
+    attribute(out, d, b" ", h)
+}
+
 fn head(out: &mut [u8], at: usize, w: usize, h: usize) -> usize {
-    let a = put(out, at, b"<svg xmlns=\"http://www.w3.org/2000/svg");
-    let b = attribute(out, a, b"\" width=\"", w);
-    let c = attribute(out, b, b" height=\"", h);
-    let d = page::line(out, c, b">");
-    let e = style(out, d);
-    rectangle(out, e, b"back", 0, 0, w, h)
+    let a = put(out, at, b"<svg xmlns=\"http://www.w3.org/2000/svg\"");
+    let b = size(out, a, w, h);
+    let c = page::line(out, b, b">");
+    let d = style(out, c);
+    rectangle(out, d, b"back", 0, 0, w, h)
 }
 
 // What a colour says.
