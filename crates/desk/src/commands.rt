@@ -39,7 +39,7 @@ fn built(list: &[u8], plan: &mut [u8]) -> Built {
 }
 
 // Builds the list of a text that was read, and says what came of it; the plan's length, or 0.
-pub fn build_list(out: &mut [u8], list: &[u8], text: &[u8], jobs: Jobs, plan: &mut [u8]) -> usize {
+pub(crate) fn build_list(out: &mut [u8], list: &[u8], text: &[u8], jobs: Jobs, plan: &mut [u8]) -> usize {
     match built(list, plan) {
         Built::Plan(k) => k,
         Built::No(w) => {
@@ -108,7 +108,7 @@ fn build_in(
 }
 
 // desk build JOBS PLAN
-pub fn build(from: &[u8], to: &[u8], out: &mut [u8]) {
+pub(crate) fn build(from: &[u8], to: &[u8], out: &mut [u8]) {
     let mut text = io::large_buffer();
     let mut list = [0u8; LIST_ROOM];
     let mut plan = [0u8; PLAN_ROOM];
@@ -190,7 +190,7 @@ fn check_in(
 }
 
 // desk check PLAN [JOBS]
-pub fn check(path: &[u8], from: &[u8], out: &mut [u8]) {
+pub(crate) fn check(path: &[u8], from: &[u8], out: &mut [u8]) {
     let mut bytes = io::large_buffer();
     let mut text = io::large_buffer();
     let mut list = [0u8; LIST_ROOM];
@@ -215,7 +215,7 @@ fn refuse(plan: &[u8], text: &[u8], jobs: Jobs, out: &mut [u8]) {
 }
 
 // The picture, and the check's no where it has one.
-pub fn show_plan(out: &mut [u8], at: usize, plan: &[u8], text: &[u8], jobs: Jobs) -> usize {
+pub(crate) fn show_plan(out: &mut [u8], at: usize, plan: &[u8], text: &[u8], jobs: Jobs) -> usize {
     let a = put(out, at, b" ");
     let b = draw::counts(out, a, list_of(plan));
     let c = page::end(out, b);
@@ -275,7 +275,7 @@ fn show_in(
 }
 
 // desk show PLAN [JOBS] [--svg]
-pub fn show(path: &[u8], from: &[u8], as_svg: bool, out: &mut [u8]) {
+pub(crate) fn show(path: &[u8], from: &[u8], as_svg: bool, out: &mut [u8]) {
     let mut bytes = io::large_buffer();
     let mut text = io::large_buffer();
     let mut list = [0u8; LIST_ROOM];
@@ -349,7 +349,7 @@ fn list_in(path: &[u8], bytes: &mut [u8], out: &mut [u8]) {
 }
 
 // desk list PLAN
-pub fn list(path: &[u8], out: &mut [u8]) {
+pub(crate) fn list(path: &[u8], out: &mut [u8]) {
     let mut bytes = io::large_buffer();
     list_in(path, &mut bytes, out);
 }
@@ -435,7 +435,7 @@ fn run_in(
 }
 
 // desk run PLAN TICKS [JOBS], and desk run PLAN --demo N [JOBS]
-pub fn run(path: &[u8], ticks: &[u8], is_made: bool, from: &[u8], out: &mut [u8]) {
+pub(crate) fn run(path: &[u8], ticks: &[u8], is_made: bool, from: &[u8], out: &mut [u8]) {
     let mut bytes = io::large_buffer();
     let mut text = io::large_buffer();
     let mut list = [0u8; LIST_ROOM];

@@ -357,7 +357,7 @@ fn each_switch(out: &mut [u8], at: usize, plan: &[u8], text: &[u8], jobs: Jobs) 
 }
 
 // The counts of a plan.
-pub fn counts(out: &mut [u8], at: usize, list: &[u8]) -> usize {
+pub(crate) fn counts(out: &mut [u8], at: usize, list: &[u8]) -> usize {
     let a = page::count(out, at, list::jobs(list), b"job");
     let b = put(out, a, b", ");
     let c = page::count(out, b, list::edges(list), b"edge");
@@ -366,7 +366,7 @@ pub fn counts(out: &mut [u8], at: usize, list: &[u8]) -> usize {
 }
 
 // The whole picture.
-pub fn show(
+pub(crate) fn show(
     out: &mut [u8],
     at: usize,
     plan: &[u8],

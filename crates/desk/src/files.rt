@@ -21,7 +21,7 @@ pub enum Piece {
 }
 
 // One read, behind what is there.
-pub fn read_more(fd: i32, buf: &mut [u8], have: usize) -> Piece {
+pub(crate) fn read_more(fd: i32, buf: &mut [u8], have: usize) -> Piece {
     if buf.len() <= have {
         return Piece::End;
     }
@@ -60,7 +60,7 @@ fn say_too_long(out: &mut [u8], path: &[u8]) {
 }
 
 // Reads a file that is shorter than the buffer.
-pub fn read(path: &[u8], buf: &mut [u8], out: &mut [u8]) -> Got {
+pub(crate) fn read(path: &[u8], buf: &mut [u8], out: &mut [u8]) -> Got {
     let fd = os::open_read(path);
     if fd < 0 {
         os::fail(path);
@@ -121,7 +121,7 @@ fn say_unwritten(out: &mut [u8], path: &[u8]) {
 }
 
 // Writes a file, whole or not at all: first beside it, as PATH.new, and then by a new name.
-pub fn write(path: &[u8], bytes: &[u8], out: &mut [u8]) -> bool {
+pub(crate) fn write(path: &[u8], bytes: &[u8], out: &mut [u8]) -> bool {
     let mut name = [0u8; 4104];
     if write_in(&mut name, path, bytes) {
         return true;

@@ -62,7 +62,7 @@ struct Job {
 
 impl Jobs {
     // No job, and no mistake: names are then made of numbers.
-    pub fn none() -> Self {
+    pub(crate) fn none() -> Self {
         Jobs {
             n: 0,
             m: 0,
@@ -75,7 +75,7 @@ impl Jobs {
     }
 
     // Nothing was read, and why was said.
-    pub fn unread() -> Self {
+    pub(crate) fn unread() -> Self {
         Jobs::none().mistaken(Wrong::Unread, 1)
     }
 
@@ -149,7 +149,7 @@ fn stop(s: &[u8], from: usize) -> usize {
 }
 
 // Word k of a line; nothing where it has fewer.
-pub fn word(s: &[u8], k: usize) -> &[u8] {
+pub(crate) fn word(s: &[u8], k: usize) -> &[u8] {
     let mut at = 0;
     for i in 0..k {
         at = stop(s, skip(s, at));
@@ -159,7 +159,7 @@ pub fn word(s: &[u8], k: usize) -> &[u8] {
 }
 
 // A line without its comment.
-pub fn bare(s: &[u8], from: usize, to: usize) -> &[u8] {
+pub(crate) fn bare(s: &[u8], from: usize, to: usize) -> &[u8] {
     let line = part(s, from, to);
     part(line, 0, find(line, 0, b'#'))
 }
@@ -181,7 +181,7 @@ fn is_name(s: &[u8]) -> bool {
 }
 
 // A number of 16 bits, or none.
-pub fn number(s: &[u8]) -> usize {
+pub(crate) fn number(s: &[u8]) -> usize {
     match text::number(s, NONE - 1) {
         Decimal::Is(n) => n,
         Decimal::Not => NONE,
@@ -255,7 +255,7 @@ fn put_job(list: &mut [u8], k: usize, job: Job) {
 }
 
 // The name of job j in the text; nothing where the text has fewer jobs.
-pub fn name_of(s: &[u8], jobs: Jobs, j: usize) -> &[u8] {
+pub(crate) fn name_of(s: &[u8], jobs: Jobs, j: usize) -> &[u8] {
     if j < MOST_JOBS {
         if j < jobs.n {
             return part(s, jobs.from[j], jobs.to[j]);
@@ -427,7 +427,7 @@ fn read_in(s: &[u8], list: &mut [u8], pairs: &mut [u8]) -> Jobs {
 }
 
 // Reads a text, and puts the list's bytes at the front of `list`. A line of 0 says that there is no mistake.
-pub fn read(s: &[u8], list: &mut [u8]) -> Jobs {
+pub(crate) fn read(s: &[u8], list: &mut [u8]) -> Jobs {
     let mut pairs = [0u8; PAIRS];
     read_in(s, list, &mut pairs)
 }

@@ -14,7 +14,7 @@ pub const PAIRS: usize = MOST_JOBS * MOST_JOBS;
 pub const LIST_ROOM: usize = HEAD_BYTES + JOB_BYTES * MOST_JOBS + EDGE_BYTES * PAIRS;
 
 // The place of a field of job j.
-pub fn field_at(j: usize, field: usize) -> usize {
+pub(crate) fn field_at(j: usize, field: usize) -> usize {
     if j < MOST_JOBS {
         if field < JOB_BYTES {
             return HEAD_BYTES + JOB_BYTES * j + field;
@@ -24,7 +24,7 @@ pub fn field_at(j: usize, field: usize) -> usize {
 }
 
 // The place of edge e, after n jobs.
-pub fn edge_at(n: usize, e: usize) -> usize {
+pub(crate) fn edge_at(n: usize, e: usize) -> usize {
     if n <= MOST_JOBS {
         if e <= PAIRS {
             return HEAD_BYTES + JOB_BYTES * n + EDGE_BYTES * e;
@@ -33,42 +33,42 @@ pub fn edge_at(n: usize, e: usize) -> usize {
     LIST_ROOM
 }
 
-pub fn jobs(list: &[u8]) -> usize {
+pub(crate) fn jobs(list: &[u8]) -> usize {
     u16_at(list, 0)
 }
 
-pub fn edges(list: &[u8]) -> usize {
+pub(crate) fn edges(list: &[u8]) -> usize {
     u16_at(list, 2)
 }
 
-pub fn slots(list: &[u8]) -> usize {
+pub(crate) fn slots(list: &[u8]) -> usize {
     u16_at(list, 4)
 }
 
-pub fn arrival(list: &[u8], j: usize) -> usize {
+pub(crate) fn arrival(list: &[u8], j: usize) -> usize {
     u16_at(list, field_at(j, 0))
 }
 
-pub fn deadline(list: &[u8], j: usize) -> usize {
+pub(crate) fn deadline(list: &[u8], j: usize) -> usize {
     u16_at(list, field_at(j, 2))
 }
 
-pub fn ordinary(list: &[u8], j: usize) -> usize {
+pub(crate) fn ordinary(list: &[u8], j: usize) -> usize {
     u16_at(list, field_at(j, 4))
 }
 
-pub fn high(list: &[u8], j: usize) -> usize {
+pub(crate) fn high(list: &[u8], j: usize) -> usize {
     u16_at(list, field_at(j, 6))
 }
 
-pub fn is_high(list: &[u8], j: usize) -> bool {
+pub(crate) fn is_high(list: &[u8], j: usize) -> bool {
     byte_at(list, field_at(j, 8)) == 1
 }
 
-pub fn edge_from(list: &[u8], e: usize) -> usize {
+pub(crate) fn edge_from(list: &[u8], e: usize) -> usize {
     wide(byte_at(list, edge_at(jobs(list), e)))
 }
 
-pub fn edge_to(list: &[u8], e: usize) -> usize {
+pub(crate) fn edge_to(list: &[u8], e: usize) -> usize {
     wide(byte_at(list, after(edge_at(jobs(list), e))))
 }

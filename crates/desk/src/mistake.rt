@@ -61,7 +61,7 @@ fn of_line(out: &mut [u8], at: usize, w: Wrong) -> usize {
 }
 
 // Says what is wrong with a list; nothing where that was said.
-pub fn say(out: &mut [u8], path: &[u8], jobs: Jobs) {
+pub(crate) fn say(out: &mut [u8], path: &[u8], jobs: Jobs) {
     let w = jobs.wrong;
     if let Wrong::Unread = w {
         return;

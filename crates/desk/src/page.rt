@@ -11,29 +11,29 @@ pub const ROOM: usize = 16384;
 const FULL: usize = 8192;
 
 // Puts bytes at a place, and hands back the next place. What does not fit is not put.
-pub fn put(out: &mut [u8], at: usize, s: &[u8]) -> usize {
+pub(crate) fn put(out: &mut [u8], at: usize, s: &[u8]) -> usize {
     text::put(out, at, s)
 }
 
 // Puts a number's digits.
-pub fn put_number(out: &mut [u8], at: usize, n: usize) -> usize {
+pub(crate) fn put_number(out: &mut [u8], at: usize, n: usize) -> usize {
     text::put_number(out, at, n)
 }
 
 // Sends the text to standard output.
-pub fn send(out: &[u8], at: usize) {
+pub(crate) fn send(out: &[u8], at: usize) {
     if !io::write_all(STDOUT_FILENO, part(out, 0, at)) {
         os::fail(b"desk: standard output");
     }
 }
 
 // Sends the text to standard error.
-pub fn complain(out: &[u8], at: usize) {
+pub(crate) fn complain(out: &[u8], at: usize) {
     io::write_all(STDERR_FILENO, part(out, 0, at));
 }
 
 // Ends a line.
-pub fn end(out: &mut [u8], at: usize) -> usize {
+pub(crate) fn end(out: &mut [u8], at: usize) -> usize {
     let to = put(out, at, b"\n");
     if to < FULL {
         return to;
@@ -43,13 +43,13 @@ pub fn end(out: &mut [u8], at: usize) -> usize {
 }
 
 // A line of text.
-pub fn line(out: &mut [u8], at: usize, s: &[u8]) -> usize {
+pub(crate) fn line(out: &mut [u8], at: usize, s: &[u8]) -> usize {
     let to = put(out, at, s);
     end(out, to)
 }
 
 // The same bytes k times.
-pub fn fill(out: &mut [u8], at: usize, s: &[u8], k: usize) -> usize {
+pub(crate) fn fill(out: &mut [u8], at: usize, s: &[u8], k: usize) -> usize {
     let mut to = at;
     for i in 0..k {
         to = put(out, to, s);
@@ -58,24 +58,24 @@ pub fn fill(out: &mut [u8], at: usize, s: &[u8], k: usize) -> usize {
 }
 
 // Blanks, until the text from `from` on is k bytes.
-pub fn pad(out: &mut [u8], from: usize, at: usize, k: usize) -> usize {
+pub(crate) fn pad(out: &mut [u8], from: usize, at: usize, k: usize) -> usize {
     fill(out, at, b" ", less(k, less(at, from)))
 }
 
 // A number of k columns, to the right.
-pub fn right(out: &mut [u8], at: usize, n: usize, k: usize) -> usize {
+pub(crate) fn right(out: &mut [u8], at: usize, n: usize, k: usize) -> usize {
     let to = fill(out, at, b" ", less(k, digits(n)));
     put_number(out, to, n)
 }
 
 // A number of k columns, to the left.
-pub fn left(out: &mut [u8], at: usize, n: usize, k: usize) -> usize {
+pub(crate) fn left(out: &mut [u8], at: usize, n: usize, k: usize) -> usize {
     let to = put_number(out, at, n);
     pad(out, at, to, k)
 }
 
 // A number, and what it counts: an s where it is not 1.
-pub fn count(out: &mut [u8], at: usize, n: usize, what: &[u8]) -> usize {
+pub(crate) fn count(out: &mut [u8], at: usize, n: usize, what: &[u8]) -> usize {
     let a = put_number(out, at, n);
     let b = put(out, a, b" ");
     let c = put(out, b, what);

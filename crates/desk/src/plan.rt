@@ -8,22 +8,22 @@ use verdict::count::entries_before;
 use verdict::count::entry_at;
 
 // What reading says: a plan, or why not.
-pub fn read(plan: &[u8]) -> ReadAnswer {
+pub(crate) fn read(plan: &[u8]) -> ReadAnswer {
     planfile::read(plan)
 }
 
 // The number of a refusal: 0 for a plan.
-pub fn refusal(plan: &[u8]) -> usize {
+pub(crate) fn refusal(plan: &[u8]) -> usize {
     planfile::read_number(read(plan))
 }
 
 // The list of a plan.
-pub fn list_of(plan: &[u8]) -> &[u8] {
+pub(crate) fn list_of(plan: &[u8]) -> &[u8] {
     planfile::list_of(plan)
 }
 
 // The entry of one of the two tables.
-pub fn entry(plan: &[u8], is_high: bool, t: usize) -> usize {
+pub(crate) fn entry(plan: &[u8], is_high: bool, t: usize) -> usize {
     if is_high {
         return entry_at(high_of(plan), t);
     }
@@ -31,7 +31,7 @@ pub fn entry(plan: &[u8], is_high: bool, t: usize) -> usize {
 }
 
 // How many of a table's slots before slot t name a job.
-pub fn entries(plan: &[u8], is_high: bool, j: usize, t: usize) -> usize {
+pub(crate) fn entries(plan: &[u8], is_high: bool, j: usize, t: usize) -> usize {
     if is_high {
         return entries_before(high_of(plan), j, t);
     }
@@ -39,7 +39,7 @@ pub fn entries(plan: &[u8], is_high: bool, j: usize, t: usize) -> usize {
 }
 
 // Whether a high job with CHI > CLO has its CLO-th unit in slot t of table LO.
-pub fn switches(plan: &[u8], t: usize) -> bool {
+pub(crate) fn switches(plan: &[u8], t: usize) -> bool {
     let list = list_of(plan);
     let j = entry(plan, false, t);
     if list::jobs(list) <= j {
@@ -56,7 +56,7 @@ pub fn switches(plan: &[u8], t: usize) -> bool {
 }
 
 // Whether job j may run in slot t.
-pub fn is_open(plan: &[u8], j: usize, t: usize) -> bool {
+pub(crate) fn is_open(plan: &[u8], j: usize, t: usize) -> bool {
     let list = list_of(plan);
     if t < list::arrival(list, j) {
         return false;

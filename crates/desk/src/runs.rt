@@ -51,7 +51,7 @@ pub struct Run {
 }
 
 impl Run {
-    pub fn new(at: usize) -> Self {
+    pub(crate) fn new(at: usize) -> Self {
         Run {
             state: no_state(),
             at: at,
@@ -346,7 +346,7 @@ fn turn(
 }
 
 // The whole text of a file.
-pub fn file(
+pub(crate) fn file(
     out: &mut [u8],
     plan: &[u8],
     text: &[u8],
@@ -391,7 +391,7 @@ fn made_step(out: &mut [u8], plan: &[u8], text: &[u8], jobs: Jobs, run: Run, i: 
 }
 
 // n ticks made here.
-pub fn made(out: &mut [u8], at: usize, plan: &[u8], text: &[u8], jobs: Jobs, n: usize) -> usize {
+pub(crate) fn made(out: &mut [u8], at: usize, plan: &[u8], text: &[u8], jobs: Jobs, n: usize) -> usize {
     let mut run = Run::new(at);
     for i in 0..n {
         run = made_step(out, plan, text, jobs, run, i);

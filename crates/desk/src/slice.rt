@@ -2,7 +2,7 @@
 use joblist::wide;
 
 // The byte at a place; 0 past the end.
-pub fn byte_at(s: &[u8], i: usize) -> u8 {
+pub(crate) fn byte_at(s: &[u8], i: usize) -> u8 {
     if i < s.len() {
         return s[i];
     }
@@ -10,7 +10,7 @@ pub fn byte_at(s: &[u8], i: usize) -> u8 {
 }
 
 // The 16 bits at a place, the low byte first.
-pub fn u16_at(s: &[u8], i: usize) -> usize {
+pub(crate) fn u16_at(s: &[u8], i: usize) -> usize {
     if i < s.len() {
         return wide(s[i]) + 256 * wide(byte_at(s, i + 1));
     }
@@ -18,14 +18,14 @@ pub fn u16_at(s: &[u8], i: usize) -> usize {
 }
 
 // Sets the byte at a place, where there is one.
-pub fn set(s: &mut [u8], i: usize, x: u8) {
+pub(crate) fn set(s: &mut [u8], i: usize, x: u8) {
     if i < s.len() {
         s[i] = x;
     }
 }
 
 // Sets the 16 bits at a place.
-pub fn set16(s: &mut [u8], i: usize, v: usize) {
+pub(crate) fn set16(s: &mut [u8], i: usize, v: usize) {
     if i < s.len() {
         let next = i + 1;
         set(s, i, low(v));
@@ -34,12 +34,12 @@ pub fn set16(s: &mut [u8], i: usize, v: usize) {
 }
 
 // The low byte of a number.
-pub fn low(v: usize) -> u8 {
+pub(crate) fn low(v: usize) -> u8 {
     (v % 256) as u8
 }
 
 // The bytes from a to e; none where that is no part of s.
-pub fn part(s: &[u8], a: usize, e: usize) -> &[u8] {
+pub(crate) fn part(s: &[u8], a: usize, e: usize) -> &[u8] {
     if e < a {
         return &s[0..0];
     }
@@ -50,11 +50,11 @@ pub fn part(s: &[u8], a: usize, e: usize) -> &[u8] {
 }
 
 // The first place from `from` on where the byte x stands; the length where there is none.
-pub fn find(s: &[u8], from: usize, x: u8) -> usize {
+pub(crate) fn find(s: &[u8], from: usize, x: u8) -> usize {
     text::find(s, from, x)
 }
 
-pub fn same(a: &[u8], b: &[u8]) -> bool {
+pub(crate) fn same(a: &[u8], b: &[u8]) -> bool {
     if a.len() != b.len() {
         return false;
     }
@@ -67,7 +67,7 @@ pub fn same(a: &[u8], b: &[u8]) -> bool {
 }
 
 // The difference; 0 where it would be below 0.
-pub fn less(a: usize, b: usize) -> usize {
+pub(crate) fn less(a: usize, b: usize) -> usize {
     if b < a {
         return a - b;
     }
@@ -75,7 +75,7 @@ pub fn less(a: usize, b: usize) -> usize {
 }
 
 // The sum of two small numbers.
-pub fn plus(a: usize, b: usize) -> usize {
+pub(crate) fn plus(a: usize, b: usize) -> usize {
     if a < 1000000 {
         if b < 1000000 {
             return a + b;
@@ -85,7 +85,7 @@ pub fn plus(a: usize, b: usize) -> usize {
 }
 
 // The next number.
-pub fn after(i: usize) -> usize {
+pub(crate) fn after(i: usize) -> usize {
     if i < usize::MAX {
         return i + 1;
     }

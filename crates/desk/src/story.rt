@@ -99,7 +99,7 @@ fn tell_in(text: &mut [u8], list: &mut [u8], plan: &mut [u8], out: &mut [u8]) {
 }
 
 // desk demo
-pub fn tell(out: &mut [u8]) {
+pub(crate) fn tell(out: &mut [u8]) {
     let mut text = [0u8; TEXT_ROOM];
     let mut list = [0u8; LIST_ROOM];
     let mut plan = [0u8; PLAN_ROOM];

@@ -408,7 +408,7 @@ fn heading(out: &mut [u8], at: usize, list: &[u8]) -> usize {
 }
 
 // The whole picture.
-pub fn picture(out: &mut [u8], at: usize, plan: &[u8], names: &[u8], jobs: Jobs) -> usize {
+pub(crate) fn picture(out: &mut [u8], at: usize, plan: &[u8], names: &[u8], jobs: Jobs) -> usize {
     let list = list_of(plan);
     let w = larger(540, plus(x_of(plan, list::slots(list)), 24));
     let h = plus(y_of(plan, true, list::jobs(list)), 24);

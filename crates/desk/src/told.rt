@@ -94,7 +94,7 @@ fn at_fault(number: usize, f: Fault) -> No {
 }
 
 // A number with the place that the check gives it.
-pub fn at_spot(number: usize, s: Spot) -> No {
+pub(crate) fn at_spot(number: usize, s: Spot) -> No {
     match s {
         Spot::InList(p) => in_list(number, p),
         Spot::AtSlot(t) => No::at_slot(number, t),
@@ -111,7 +111,7 @@ fn at_answer(number: usize, v: Verdict) -> No {
 }
 
 // A number with the place that the builder gives it.
-pub fn of_build(number: usize, p: BuildPlace) -> No {
+pub(crate) fn of_build(number: usize, p: BuildPlace) -> No {
     match p {
         BuildPlace::InList(q) => in_list(number, q),
         BuildPlace::AtJob(t, j) => No::at(number, t, j),
@@ -121,7 +121,7 @@ pub fn of_build(number: usize, p: BuildPlace) -> No {
 }
 
 // A job's name; its number where the text names it not.
-pub fn put_name(out: &mut [u8], at: usize, text: &[u8], jobs: Jobs, j: usize) -> usize {
+pub(crate) fn put_name(out: &mut [u8], at: usize, text: &[u8], jobs: Jobs, j: usize) -> usize {
     if j < jobs.n {
         return put(out, at, name_of(text, jobs, j));
     }
@@ -155,7 +155,7 @@ fn job_line(out: &mut [u8], at: usize, s: &[u8], text: &[u8], jobs: Jobs, j: usi
 }
 
 // An edge, as it is written in a list.
-pub fn put_edge(
+pub(crate) fn put_edge(
     out: &mut [u8],
     at: usize,
     list: &[u8],
@@ -221,7 +221,7 @@ fn advice(out: &mut [u8], at: usize, number: usize) -> usize {
 }
 
 // A refusal, on a few lines; the first begins with `no`.
-pub fn say(out: &mut [u8], at: usize, list: &[u8], text: &[u8], jobs: Jobs, no: No) -> usize {
+pub(crate) fn say(out: &mut [u8], at: usize, list: &[u8], text: &[u8], jobs: Jobs, no: No) -> usize {
     let a = meaning(out, at, no.number);
     let b = fault_line(out, a, no.fault);
     let c = place(out, b, list, text, jobs, no);

@@ -111,7 +111,7 @@ fn of_files(out: &mut [u8], at: usize, number: usize) -> usize {
 }
 
 // What a number means.
-pub fn words(out: &mut [u8], at: usize, number: usize) -> usize {
+pub(crate) fn words(out: &mut [u8], at: usize, number: usize) -> usize {
     if number < 1 {
         return of_files(out, at, number);
     }
@@ -252,7 +252,7 @@ fn do_files(out: &mut [u8], at: usize, number: usize) -> usize {
 }
 
 // What to do about it.
-pub fn advice(out: &mut [u8], at: usize, number: usize) -> usize {
+pub(crate) fn advice(out: &mut [u8], at: usize, number: usize) -> usize {
     if number < 1 {
         return do_files(out, at, number);
     }
@@ -306,7 +306,7 @@ fn entry(out: &mut [u8], at: usize, number: usize) -> usize {
 }
 
 // All of them.
-pub fn table(out: &mut [u8], at: usize) -> usize {
+pub(crate) fn table(out: &mut [u8], at: usize) -> usize {
     let mut to = at;
     for i in 1..47 {
         to = entry(out, to, i);
