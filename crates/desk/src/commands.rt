@@ -39,7 +39,13 @@ fn built(list: &[u8], plan: &mut [u8]) -> Built {
 }
 
 // Builds the list of a text that was read, and says what came of it; the plan's length, or 0.
-pub(crate) fn build_list(out: &mut [u8], list: &[u8], text: &[u8], jobs: Jobs, plan: &mut [u8]) -> usize {
+pub(crate) fn build_list(
+    out: &mut [u8],
+    list: &[u8],
+    text: &[u8],
+    jobs: Jobs,
+    plan: &mut [u8],
+) -> usize {
     match built(list, plan) {
         Built::Plan(k) => k,
         Built::No(w) => {

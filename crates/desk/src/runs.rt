@@ -391,7 +391,14 @@ fn made_step(out: &mut [u8], plan: &[u8], text: &[u8], jobs: Jobs, run: Run, i: 
 }
 
 // n ticks made here.
-pub(crate) fn made(out: &mut [u8], at: usize, plan: &[u8], text: &[u8], jobs: Jobs, n: usize) -> usize {
+pub(crate) fn made(
+    out: &mut [u8],
+    at: usize,
+    plan: &[u8],
+    text: &[u8],
+    jobs: Jobs,
+    n: usize,
+) -> usize {
     let mut run = Run::new(at);
     for i in 0..n {
         run = made_step(out, plan, text, jobs, run, i);

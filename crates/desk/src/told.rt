@@ -221,7 +221,14 @@ fn advice(out: &mut [u8], at: usize, number: usize) -> usize {
 }
 
 // A refusal, on a few lines; the first begins with `no`.
-pub(crate) fn say(out: &mut [u8], at: usize, list: &[u8], text: &[u8], jobs: Jobs, no: No) -> usize {
+pub(crate) fn say(
+    out: &mut [u8],
+    at: usize,
+    list: &[u8],
+    text: &[u8],
+    jobs: Jobs,
+    no: No,
+) -> usize {
     let a = meaning(out, at, no.number);
     let b = fault_line(out, a, no.fault);
     let c = place(out, b, list, text, jobs, no);
