@@ -7,7 +7,7 @@
  *
  * No call allocates, keeps anything between calls, reads a clock or writes a file. Each call ends, and
  * answers on every input: any bytes, any lengths, any ticks, any end marks, any bytes as a state. Of C's
- * library it needs memcpy and memset. A call took at most 34 KB of stack (measured, not proved).
+ * library it needs memcpy and memset. Build, read, open and step took at most 34 KB of stack (measured, not proved).
  *
  * What the caller owes:
  * - a pointer is never NULL, also where its length is 0, and that many bytes behind it may be read;
