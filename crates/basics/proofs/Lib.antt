@@ -6,3 +6,4 @@ pub mod Below
 pub mod Units
 pub mod Bytes
 pub mod Put
+pub mod At

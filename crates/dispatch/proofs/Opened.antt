@@ -18,7 +18,7 @@ use Rattle.basics.specs.Marks.{idle}
 use Rattle.joblist.specs.Fields.{jobs, edges, slots, jobAt, edgeAt, listBytes, arrival, deadline, ordinary, high, level, edgeFrom, edgeTo}
 use Rattle.joblist.specs.Accepted.{Accepted}
 use Rattle.joblist.proofs.Accepted.{accepted}
-use Rattle.verdict.proofs.Entries.{getD-any}
+use Rattle.basics.proofs.At.{getD-any}
 use Rattle.verdict.specs.Demand.{Input, GoodTable}
 use Rattle.planfile.specs.Plan.{listOf, lowOf, highOf}
 use Rattle.planfile.specs.Answer.{readOf}

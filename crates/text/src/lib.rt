@@ -2,6 +2,7 @@
 mod hex;
 mod place;
 mod read;
+mod slice;
 
 pub use hex::Unhexed;
 pub use hex::put_hex;
@@ -11,3 +12,6 @@ pub use place::put_number;
 pub use read::Decimal;
 pub use read::find;
 pub use read::number;
+pub use slice::byte_at;
+pub use slice::part;
+pub use slice::same;

@@ -1,6 +1,6 @@
 -- Laws of the count: an entry read, one slot more, and its bound.
 -- Assumes nothing.
-use mathlib.Core.List.{List, [], _∷_}
+use mathlib.Core.List.{List}
 use mathlib.Core.Path.{_≡_, refl}
 use Prim.Native.Nat.{_+_, _<_, _≤_, suc, zero, ℕ}
 use native.Mathlib.Numerals.{add-one}
@@ -9,17 +9,6 @@ use lib.ListN.{getD, length}
 use Rattle.basics.proofs.Below.{count-at-most, entries-else, entries-here}
 use Rattle.basics.specs.Below.{entriesBefore}
 use Rattle.verdict.specs.Count.{entryAt}
-
--- what is read within a list does not hang on what stands past it
-pub getD-any : {A : Type 0} (l : List A) (i : ℕ) (d d′ : A) → i < length l → getD l i d ≡ getD l i d′
-getD-any [] i d d′ h = absurd (omega arith)
-getD-any (x ∷ l) zero d d′ h = refl
-getD-any (x ∷ l) (suc i) d d′ h = getD-any l i d d′ (omega arith)
-
-pub getD-past : {A : Type 0} (l : List A) (i : ℕ) (d : A) → length l ≤ i → getD l i d ≡ d
-getD-past [] i d h = refl
-getD-past (x ∷ l) zero d h = absurd (omega arith)
-getD-past (x ∷ l) (suc i) d h = getD-past l i d (omega arith)
 
 module _ (table : List ℕ) (job t : ℕ) where
   pub entries-most : entriesBefore (entryAt table) job t ≤ t

@@ -9,7 +9,8 @@ use lib.ListN.{length}
 use Rattle.basics.proofs.Below.{entries-zero}
 use Rattle.basics.specs.Below.{entriesBefore}
 use Rattle.basics.specs.Marks.{idle}
-use Rattle.verdict.proofs.Entries.{count-else, count-here, entries-most, getD-any}
+use Rattle.basics.proofs.At.{getD-any}
+use Rattle.verdict.proofs.Entries.{count-else, count-here, entries-most}
 use Rattle.verdict.specs.Count.{entriesIn, entryAt}
 use Rattle.verdict.proofs.count.entries_before.Statement.{statement}
 use Rattle.verdict.proofs.count.entries_before.Tie as tie

@@ -4,7 +4,7 @@ use mathlib.Core.Path.{_∙_, sym}
 use native.Mathlib.Omega.{arith}
 use borrow.Author.Needs.{needs}
 use Rattle.basics.specs.Marks.{idle}
-use Rattle.verdict.proofs.Entries.{getD-any, getD-past}
+use Rattle.basics.proofs.At.{getD-any, getD-past}
 use Rattle.verdict.proofs.count.entry_at.Statement.{statement}
 use Rattle.verdict.proofs.count.entry_at.Tie as tie
 
