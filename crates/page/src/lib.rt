@@ -1,9 +1,10 @@
 // Text on its way to a person: gathered on a page, which is handed on by value, and sent when it is full.
 //
-// Nothing is asked of a caller, and no piece is lost: one that is longer than a page is sent by itself. Blanks are held
-// back until something follows them, so that no line ends in a blank.
+// Nothing is asked of a caller, and no piece is left out: one that is longer than a page goes by itself. Blanks are held
+// back until something follows them, so that no line ends in one.
 use libc::STDERR_FILENO;
 use libc::STDOUT_FILENO;
+use text::part;
 
 // The bytes of a page.
 const ROOM: usize = 1024;
@@ -20,7 +21,7 @@ pub struct Page {
 impl Page {
     fn new(to: i32) -> Self {
         Page {
-            bytes: [0; ROOM],
+            bytes: [0u8; ROOM],
             size: 0,
             blanks: 0,
             to: to,
@@ -38,8 +39,8 @@ impl Page {
         Page::new(STDERR_FILENO)
     }
 
-    // Sends bytes past the page; after the first loss no more is sent.
-    fn straight(mut self, s: &[u8]) -> Self {
+    // Sends bytes past the page. After a loss no more is sent.
+    fn passed(mut self, s: &[u8]) -> Self {
         if !self.is_lost {
             self.is_lost = !io::write_all(self.to, s);
         }
@@ -49,54 +50,169 @@ impl Page {
     // Sends what is gathered.
     fn sent(self) -> Self {
         let bytes = self.bytes;
-        let mut page = self.straight(&bytes[..kept(self.size)]);
+        let mut page = self.passed(part(&bytes, 0, self.size));
         page.size = 0;
         page
     }
 
     // The bytes put behind what is gathered, where they fit.
-    fn placed(self, s: &[u8]) -> Self {
+    fn placed(mut self, s: &[u8]) -> Self {
         let mut bytes = self.bytes;
-        let size = text::put(&mut bytes, self.size, s);
-        Page {
-            bytes: bytes,
-            size: size,
-            blanks: self.blanks,
-            to: self.to,
-            is_lost: self.is_lost,
-        }
+        self.size = put_in(&mut bytes, self.size, s);
+        self.bytes = bytes;
+        self
     }
 
-    // The bytes, wherever they fit.
+    // The bytes, on this page or on the next, or by themselves.
     fn added(self, s: &[u8]) -> Self {
         let page = self.placed(s);
         if page.size != self.size {
             return page;
         }
+        let next = self.sent();
         if ROOM < s.len() {
-            return self.sent().straight(s);
+            return next.passed(s);
         }
-        self.sent().placed(s)
+        next.placed(s)
+    }
+
+    // The bytes k times.
+    fn repeated(self, s: &[u8], k: usize) -> Self {
+        let mut page = self;
+        for i in 0..k {
+            page = page.added(s);
+        }
+        page
     }
 
     // The blanks that were held back, now that something follows.
     fn spaced(self) -> Self {
-        let mut page = self;
-        for i in 0..self.blanks {
-            page = page.added(b" ");
-        }
-        page.trimmed()
+        self.repeated(b" ", self.blanks).trimmed()
     }
 
     // Puts bytes.
     pub fn put(self, s: &[u8]) -> Self {
-        self.spaced().added(s)
+        self.fill(s, 1)
     }
 
-    // Puts a number's digits.
+    // Puts the same bytes k times.
+    pub fn fill(self, s: &[u8], k: usize) -> Self {
+        if k == 0 {
+            return self;
+        }
+        if s.len() == 0 {
+            return self;
+        }
+        self.spaced().repeated(s, k)
+    }
+
+    // Puts the decimal digits of a number.
     pub fn number(self, n: usize) -> Self {
         let mut digits = [0u8; 20];
-        let k = text::put_number(&mut digits, 0, n);
-        self.put(&digits[..k])
+        let k = number_in(&mut digits, n);
+        self.put(part(&digits, 0, k))
     }
+
+    // Holds back k blanks.
+    pub fn blank(mut self, k: usize) -> Self {
+        self.blanks = plus(self.blanks, k);
+        self
+    }
+
+    // Forgets the blanks that are held back.
+    pub fn trimmed(mut self) -> Self {
+        self.blanks = 0;
+        self
+    }
+
+    // Ends a line.
+    pub fn end(self) -> Self {
+        self.trimmed().added(b"\n")
+    }
+
+    // A line of text.
+    pub fn line(self, s: &[u8]) -> Self {
+        self.put(s).end()
+    }
+
+    // Bytes, and blanks up to k columns.
+    pub fn left(self, s: &[u8], k: usize) -> Self {
+        self.put(s).blank(less(k, s.len()))
+    }
+
+    // A number, and blanks up to k columns.
+    pub fn number_left(self, n: usize, k: usize) -> Self {
+        self.number(n).blank(less(k, digits(n)))
+    }
+
+    // A number, with blanks before it up to k columns.
+    pub fn number_right(self, n: usize, k: usize) -> Self {
+        self.blank(less(k, digits(n))).number(n)
+    }
+
+    // A number and what it counts: with an s where it is not 1.
+    pub fn count(self, n: usize, what: &[u8]) -> Self {
+        let page = self.number(n).put(b" ").put(what);
+        if n == 1 {
+            return page;
+        }
+        page.put(b"s")
+    }
+
+    // Sends the rest; whether all of the text got there.
+    pub fn done(self) -> bool {
+        !self.sent().is_lost
+    }
+}
+
+// The calls of `text` without their contracts, which no page needs.
+fn put_in(bytes: &mut [u8], at: usize, s: &[u8]) -> usize {
+    text::put(bytes, at, s)
+}
+
+fn number_in(bytes: &mut [u8], n: usize) -> usize {
+    text::put_number(bytes, 0, n)
+}
+
+// The difference; 0 where it would be below 0.
+pub fn less(a: usize, b: usize) -> usize {
+    if b < a {
+        return a - b;
+    }
+    0
+}
+
+// The sum of two small numbers.
+pub fn plus(a: usize, b: usize) -> usize {
+    if a < 1000000 {
+        if b < 1000000 {
+            return a + b;
+        }
+    }
+    0
+}
+
+// The lower of two numbers.
+pub fn lower(a: usize, b: usize) -> usize {
+    if a < b {
+        return a;
+    }
+    b
+}
+
+// How many digits a number of at most five has.
+fn digits(n: usize) -> usize {
+    if n < 10 {
+        return 1;
+    }
+    if n < 100 {
+        return 2;
+    }
+    if n < 1000 {
+        return 3;
+    }
+    if n < 10000 {
+        return 4;
+    }
+    5
 }
