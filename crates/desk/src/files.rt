@@ -1,16 +1,19 @@
-// Files, read whole and written whole.
-use crate::page;
-use crate::page::put;
-use crate::slice::part;
-use crate::slice::plus;
+// Files, read whole and written whole; and pages, sent whole.
+use page::Page;
+use page::plus;
+use text::part;
 
-// The bytes that a file may have, one more than is read.
-pub const MOST: usize = 65536;
+// The bytes that are read at most: one more than a file may have.
+const MOST: usize = 65536;
 
-// What reading gives: how many bytes, or nothing, and then why was said.
-pub enum Got {
-    Bytes(usize),
-    No,
+// The longest path of a file with the end that its side file has.
+const PATH_ROOM: usize = 4104;
+
+// A file's bytes, and how many; or that there are none, and then why was said.
+pub struct File {
+    pub bytes: [u8; MOST],
+    pub size: usize,
+    pub is_read: bool,
 }
 
 // What a read gives.
@@ -18,6 +21,18 @@ pub enum Piece {
     More(usize),
     End,
     Failed,
+}
+
+// Sends the rest of a page, and says so where some of it was lost.
+pub(crate) fn send(page: Page) {
+    if !page.done() {
+        os::fail(b"desk: standard output");
+    }
+}
+
+// Sends a page to standard error. Where that fails there is nowhere left to say so.
+pub(crate) fn complain(page: Page) {
+    page.done();
 }
 
 // One read, behind what is there.
@@ -36,46 +51,54 @@ pub(crate) fn read_more(fd: i32, buf: &mut [u8], have: usize) -> Piece {
     Piece::More(k)
 }
 
-// Reads to the end, or until the buffer is full.
-fn read_all(fd: i32, path: &[u8], buf: &mut [u8]) -> Got {
+// Reads to the end, or until the buffer is full; how many bytes, or one more than there can be where a read failed.
+fn read_all(fd: i32, buf: &mut [u8]) -> usize {
     let mut have = 0;
     for turn in 0..MOST {
-        let r = read_more(fd, buf, have);
-        match r {
+        match read_more(fd, buf, have) {
             Piece::More(k) => have = plus(have, k),
-            Piece::End => return Got::Bytes(have),
-            Piece::Failed => {
-                os::fail(path);
-                return Got::No;
-            }
+            Piece::End => return have,
+            Piece::Failed => return MOST + 1,
         }
     }
-    Got::Bytes(have)
+    have
 }
 
-fn say_too_long(out: &mut [u8], path: &[u8]) {
-    let a = put(out, 0, path);
-    let b = page::line(out, a, b": over 65,535 bytes, and no plan or job list is");
-    page::complain(out, b);
+fn read_open(fd: i32, path: &[u8]) -> File {
+    let mut bytes = io::large_buffer();
+    let size = read_all(fd, &mut bytes);
+    if MOST < size {
+        os::fail(path);
+    }
+    if size == MOST {
+        let over = Page::errors().put(path);
+        complain(over.line(b": over 65,535 bytes, and no plan or job list is"));
+    }
+    File {
+        bytes: bytes,
+        size: size,
+        is_read: size < MOST,
+    }
 }
 
-// Reads a file that is shorter than the buffer.
-pub(crate) fn read(path: &[u8], buf: &mut [u8], out: &mut [u8]) -> Got {
+fn unread() -> File {
+    File {
+        bytes: [0u8; MOST],
+        size: 0,
+        is_read: false,
+    }
+}
+
+// Reads a file.
+pub(crate) fn read(path: &[u8]) -> File {
     let fd = os::open_read(path);
     if fd < 0 {
         os::fail(path);
-        return Got::No;
+        return unread();
     }
-    let got = read_all(fd, path, buf);
+    let file = read_open(fd, path);
     libc::close(fd);
-    let Got::Bytes(k) = got else {
-        return Got::No;
-    };
-    if buf.len() <= k {
-        say_too_long(out, path);
-        return Got::No;
-    }
-    got
+    file
 }
 
 // Writes all, and has it on the disk.
@@ -108,24 +131,19 @@ fn write_by(side: &[u8], path: &[u8], bytes: &[u8]) -> bool {
     true
 }
 
-fn write_in(name: &mut [u8], path: &[u8], bytes: &[u8]) -> bool {
-    let a = put(name, 0, path);
-    let b = put(name, a, b".new");
-    write_by(part(name, 0, b), path, bytes)
-}
-
-fn say_unwritten(out: &mut [u8], path: &[u8]) {
-    let a = put(out, 0, path);
-    let b = page::line(out, a, b" was not written");
-    page::complain(out, b);
+// The path with another end.
+fn side_of(name: &mut [u8], path: &[u8]) -> usize {
+    let at = text::put(name, 0, path);
+    text::put(name, at, b".new")
 }
 
 // Writes a file, whole or not at all: first beside it, as PATH.new, and then by a new name.
-pub(crate) fn write(path: &[u8], bytes: &[u8], out: &mut [u8]) -> bool {
-    let mut name = [0u8; 4104];
-    if write_in(&mut name, path, bytes) {
+pub(crate) fn write(path: &[u8], bytes: &[u8]) -> bool {
+    let mut name = [0u8; PATH_ROOM];
+    let k = side_of(&mut name, path);
+    if write_by(part(&name, 0, k), path, bytes) {
         return true;
     }
-    say_unwritten(out, path);
+    complain(Page::errors().put(path).line(b" was not written"));
     false
 }

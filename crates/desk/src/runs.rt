@@ -1,26 +1,7 @@
 // The dispatcher, tick by tick: over a text of ticks and marks, or over ticks made here.
 use crate::files::Piece;
 use crate::files::read_more;
-use crate::jobs::Jobs;
-use crate::jobs::NONE;
-use crate::jobs::bare;
-use crate::jobs::number;
-use crate::jobs::word;
-use crate::list;
-use crate::page;
-use crate::page::put;
-use crate::page::put_number;
-use crate::plan::list_of;
-use crate::slice::after;
-use crate::slice::byte_at;
-use crate::slice::find;
-use crate::slice::less;
-use crate::slice::part;
-use crate::slice::plus;
-use crate::slice::same;
-use crate::slice::set;
-use crate::told::put_name;
-use crate::words;
+use crate::plans::list_of;
 use dispatch::answer::Answer;
 use dispatch::answer::Why;
 use dispatch::state::State;
@@ -28,6 +9,18 @@ use dispatch::state::Stepped;
 use joblist::MOST_JOBS;
 use joblist::Place;
 use joblist::wide;
+use jobtext::Names;
+use jobtext::line::NONE;
+use jobtext::line::bare;
+use jobtext::line::number;
+use jobtext::line::word;
+use jobtext::list;
+use page::Page;
+use page::less;
+use page::plus;
+use text::find;
+use text::part;
+use text::same;
 
 // The tick that the first frame of made ticks begins with: a few before 65535.
 const FIRST: usize = 65530;
@@ -35,13 +28,14 @@ const FIRST: usize = 65530;
 // More reads than any file takes.
 const TURNS: usize = 1099511627776;
 
-const MOST_LINES: usize = 65536;
+// The text that is held at a time: no line with a tick is longer.
+const HELD: usize = 4096;
 
-// How far a run is: the dispatcher's state, the place in the page, the line, how much of the text is there and how much of
-// it was used, the frame, and whether the state is open and the run over.
+// How far a run is: the dispatcher's state, what is said, the line, how much of the text is held and how much of that was
+// used, the frame, and whether the state is open and the run over.
 pub struct Run {
     state: State,
-    at: usize,
+    page: Page,
     line: usize,
     have: usize,
     used: usize,
@@ -51,10 +45,10 @@ pub struct Run {
 }
 
 impl Run {
-    pub(crate) fn new(at: usize) -> Self {
+    fn new(page: Page) -> Self {
         Run {
             state: no_state(),
-            at: at,
+            page: page,
             line: 0,
             have: 0,
             used: 0,
@@ -69,8 +63,7 @@ impl Run {
         self
     }
 
-    fn over(mut self, at: usize) -> Self {
-        self.at = at;
+    fn over(mut self) -> Self {
         self.is_over = true;
         self
     }
@@ -86,12 +79,13 @@ impl Run {
         self
     }
 
-    fn stepped(mut self, state: State, at: usize) -> Self {
+    // After a step: a frame begins at slot 0.
+    fn stepped(mut self, state: State, page: Page) -> Self {
         if state.slot == 0 {
             self.frame = after(self.frame);
         }
         self.state = state;
-        self.at = at;
+        self.page = page;
         self.is_open = true;
         self
     }
@@ -103,6 +97,23 @@ impl Run {
         }
         opened_at(plan, tick)
     }
+
+    // A line that is no tick ends the run.
+    fn mistaken(mut self) -> Self {
+        let page = self.page.put(b"line ").number(self.line);
+        self.page = page.line(
+            b": expected a tick from 0 to 65535, and then nothing or the word end",
+        );
+        self.over()
+    }
+}
+
+// The next number; none is near the last.
+fn after(i: usize) -> usize {
+    if i < usize::MAX {
+        return i + 1;
+    }
+    i
 }
 
 // The dispatcher's calls: a state before the first tick, one opened at it, and a step.
@@ -123,121 +134,56 @@ fn u16_of(n: usize) -> u16 {
     (n % 65536) as u16
 }
 
-fn mark(out: &mut [u8], at: usize, ended: bool) -> usize {
+fn put_mark(page: Page, ended: bool) -> Page {
     if ended {
-        return put(out, at, b"  end  ");
+        return page.put(b"  end  ");
     }
-    put(out, at, b"       ")
+    page.blank(7)
 }
 
-fn mode(out: &mut [u8], at: usize, high: u8) -> usize {
+fn put_mode(page: Page, high: u8) -> Page {
     if high == 0 {
-        return put(out, at, b"  LO  ");
+        return page.put(b"  LO  ");
     }
-    put(out, at, b"  HI  ")
+    page.put(b"  HI  ")
 }
 
-fn order(out: &mut [u8], at: usize, text: &[u8], jobs: Jobs, j: usize) -> usize {
+fn put_order(page: Page, names: Names, j: usize) -> Page {
     if MOST_JOBS <= j {
-        return put(out, at, b"idle");
+        return page.put(b"idle");
     }
-    put_name(out, at, text, jobs, j)
+    names.put(page, j)
 }
 
-fn refusal(out: &mut [u8], at: usize, text: &[u8], jobs: Jobs, w: Why) -> usize {
+fn put_refusal(page: Page, names: Names, w: Why) -> Page {
     let number = dispatch::answer::number_of(w);
-    let b = put(out, at, b"no: ");
-    let c = put_number(out, b, number);
-    let d = put(out, c, b", ");
-    let e = words::words(out, d, number);
+    let to = words::meaning(page.put(b"no: ").number(number).put(b", "), number);
     let Place::AtJob(j) = dispatch::answer::place_of(w) else {
-        return e;
+        return to;
     };
-    let f = put(out, e, b": ");
-    put_name(out, f, text, jobs, j)
+    names.put(to.put(b": "), j)
 }
 
 // What a step answered.
-fn said(
-    out: &mut [u8],
-    at: usize,
-    text: &[u8],
-    jobs: Jobs,
-    a: Answer,
-    slot: usize,
-    high: u8,
-) -> usize {
+fn put_answer(page: Page, names: Names, a: Answer, slot: usize, high: u8) -> Page {
     match a {
         Answer::Order(j) => {
-            let b = put(out, at, b"slot ");
-            let c = page::right(out, b, slot, 4);
-            let d = mode(out, c, high);
-            order(out, d, text, jobs, wide(j))
+            let to = put_mode(page.put(b"slot ").number_right(slot, 4), high);
+            put_order(to, names, wide(j))
         }
-        Answer::No(w) => refusal(out, at, text, jobs, w),
+        Answer::No(w) => put_refusal(page, names, w),
     }
 }
 
-// The line of a step.
-fn step_line(
-    out: &mut [u8],
-    at: usize,
-    tick: usize,
-    ended: bool,
-    text: &[u8],
-    jobs: Jobs,
-    a: Answer,
-    slot: usize,
-    high: u8,
-) -> usize {
-    let b = put(out, at, b"tick ");
-    let c = page::right(out, b, tick, 5);
-    let d = mark(out, c, ended);
-    let e = said(out, d, text, jobs, a, slot, high);
-    page::end(out, e)
-}
-
 // One step, and its line.
-fn step(
-    out: &mut [u8],
-    plan: &[u8],
-    text: &[u8],
-    jobs: Jobs,
-    run: Run,
-    tick: u16,
-    ended: bool,
-) -> Run {
+fn step(run: Run, plan: &[u8], names: Names, tick: u16, ended: bool) -> Run {
     let r = stepped(run.opened(plan, tick), tick, ended);
     let answer = r.answer;
     let state = r.state;
-    let at = step_line(
-        out,
-        run.at,
-        tick as usize,
-        ended,
-        text,
-        jobs,
-        answer,
-        state.slot as usize,
-        state.high,
-    );
-    run.stepped(state, at)
-}
-
-fn mistake_line(out: &mut [u8], at: usize, line: usize) -> usize {
-    let a = put(out, at, b"line ");
-    let b = put_number(out, a, line);
-    page::line(
-        out,
-        b,
-        b": expected a tick from 0 to 65535, and then nothing or the word end",
-    )
-}
-
-// A line that is no tick.
-fn mistake(out: &mut [u8], run: Run) -> Run {
-    let at = mistake_line(out, run.at, run.line);
-    run.over(at)
+    let page = run.page;
+    let marked = put_mark(page.put(b"tick ").number_right(tick as usize, 5), ended);
+    let said = put_answer(marked, names, answer, state.slot as usize, state.high);
+    run.stepped(state, said.end())
 }
 
 // Whether a line has a tick, and nothing or a mark after it.
@@ -255,35 +201,28 @@ fn is_tick(line: &[u8]) -> bool {
 }
 
 // One line of the text.
-fn tick_line(
-    out: &mut [u8],
-    plan: &[u8],
-    text: &[u8],
-    jobs: Jobs,
-    before: Run,
-    full: &[u8],
-) -> Run {
+fn tick_line(before: Run, plan: &[u8], names: Names, full: &[u8]) -> Run {
     let run = before.next_line();
-    let line = bare(full, 0, full.len());
+    let line = bare(full);
     if word(line, 0).len() == 0 {
         return run;
     }
     if !is_tick(line) {
-        return mistake(out, run);
+        return run.mistaken();
     }
     let tick = u16_of(number(word(line, 0)));
-    step(out, plan, text, jobs, run, tick, word(line, 1).len() != 0)
+    step(run, plan, names, tick, word(line, 1).len() != 0)
 }
 
 // Every whole line that is there.
-fn lines(out: &mut [u8], plan: &[u8], text: &[u8], jobs: Jobs, before: Run, here: &[u8]) -> Run {
+fn lines(before: Run, plan: &[u8], names: Names, here: &[u8]) -> Run {
     let mut run = before;
-    for i in 0..MOST_LINES {
+    for i in 0..HELD {
         let to = find(here, run.used, b'\n');
         if here.len() <= to {
             break;
         }
-        run = tick_line(out, plan, text, jobs, run, part(here, run.used, to));
+        run = tick_line(run, plan, names, part(here, run.used, to));
         if run.is_over {
             break;
         }
@@ -292,76 +231,59 @@ fn lines(out: &mut [u8], plan: &[u8], text: &[u8], jobs: Jobs, before: Run, here
     run
 }
 
+// The text has ended: what is left is a line, and one that fills the buffer is no tick.
+fn last_line(run: Run, plan: &[u8], names: Names, here: &[u8]) -> Run {
+    if HELD <= here.len() {
+        return run.next_line().mistaken();
+    }
+    tick_line(run, plan, names, here).over()
+}
+
 // Moves the k bytes from `from` on to the front.
 fn shift(buf: &mut [u8], from: usize, k: usize) {
     for i in 0..k {
-        let x = byte_at(buf, plus(from, i));
-        set(buf, i, x);
+        let x = text::byte_at(buf, plus(from, i));
+        if i < buf.len() {
+            buf[i] = x;
+        }
     }
-}
-
-// The text has ended: what is left is a line, and one that fills the buffer is no tick.
-fn last_line(out: &mut [u8], plan: &[u8], text: &[u8], jobs: Jobs, run: Run, buf: &[u8]) -> Run {
-    if buf.len() <= run.have {
-        return mistake(out, run.next_line());
-    }
-    let r = tick_line(out, plan, text, jobs, run, part(buf, 0, run.have));
-    r.over(r.at)
 }
 
 // The lines that have ended; what is left moves to the front.
-fn more_lines(
-    out: &mut [u8],
-    plan: &[u8],
-    text: &[u8],
-    jobs: Jobs,
-    run: Run,
-    have: usize,
-    buf: &mut [u8],
-) -> Run {
-    let r = lines(out, plan, text, jobs, run.used_to(0), part(buf, 0, have));
+fn more_lines(run: Run, plan: &[u8], names: Names, have: usize, buf: &mut [u8]) -> Run {
+    let r = lines(run.used_to(0), plan, names, part(buf, 0, have));
     let left = less(have, r.used);
     shift(buf, r.used, left);
     r.holding(left)
 }
 
 // One read, and the lines that it ends.
-fn turn(
-    out: &mut [u8],
-    plan: &[u8],
-    text: &[u8],
-    jobs: Jobs,
-    run: Run,
-    fd: i32,
-    buf: &mut [u8],
-) -> Run {
+fn turn(run: Run, plan: &[u8], names: Names, fd: i32, buf: &mut [u8]) -> Run {
     match read_more(fd, buf, run.have) {
         Piece::Failed => {
             os::fail(b"desk: the ticks");
-            run.over(run.at)
+            run.over()
         }
-        Piece::End => last_line(out, plan, text, jobs, run, buf),
-        Piece::More(k) => more_lines(out, plan, text, jobs, run, plus(run.have, k), buf),
+        Piece::End => last_line(run, plan, names, part(buf, 0, run.have)),
+        Piece::More(k) => more_lines(run, plan, names, plus(run.have, k), buf),
     }
 }
 
-// The whole text of a file.
-pub(crate) fn file(
-    out: &mut [u8],
-    plan: &[u8],
-    text: &[u8],
-    jobs: Jobs,
-    fd: i32,
-    buf: &mut [u8],
-) -> usize {
-    let mut run = Run::new(0);
+fn turns(page: Page, plan: &[u8], names: Names, fd: i32, buf: &mut [u8]) -> Page {
+    let mut run = Run::new(page);
     for i in 0..TURNS {
-        run = turn(out, plan, text, jobs, run, fd, buf);
+        run = turn(run, plan, names, fd, buf);
         if run.is_over {
             break;
         }
     }
-    run.at
+    run.page
+}
+
+// The whole text of a file.
+pub(crate) fn file(page: Page, plan: &[u8], names: Names, fd: i32) -> Page {
+    let mut buf = [0u8; HELD];
+    turns(page, plan, names, fd, &mut buf)
 }
 
 // How many units a job takes in a frame of made ticks: its high budget in every second frame, if it has one.
@@ -381,27 +303,20 @@ fn ends(plan: &[u8], state: State, frame: usize) -> bool {
     wants(plan, j, frame) <= after(state.units[j] as usize)
 }
 
-fn made_step(out: &mut [u8], plan: &[u8], text: &[u8], jobs: Jobs, run: Run, i: usize) -> Run {
+fn made_step(run: Run, plan: &[u8], names: Names, i: usize) -> Run {
     let tick = u16_of(plus(FIRST, i));
     if run.is_open {
         let ended = ends(plan, run.state, run.frame);
-        return step(out, plan, text, jobs, run, tick, ended);
+        return step(run, plan, names, tick, ended);
     }
-    step(out, plan, text, jobs, run, tick, false)
+    step(run, plan, names, tick, false)
 }
 
 // n ticks made here.
-pub(crate) fn made(
-    out: &mut [u8],
-    at: usize,
-    plan: &[u8],
-    text: &[u8],
-    jobs: Jobs,
-    n: usize,
-) -> usize {
-    let mut run = Run::new(at);
+pub(crate) fn made(page: Page, plan: &[u8], names: Names, n: usize) -> Page {
+    let mut run = Run::new(page);
     for i in 0..n {
-        run = made_step(out, plan, text, jobs, run, i);
+        run = made_step(run, plan, names, i);
     }
-    run.at
+    run.page
 }

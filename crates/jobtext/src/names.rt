@@ -43,6 +43,15 @@ impl Names {
         0
     }
 
+    // How many columns a job's name takes, or its number with the letter j.
+    pub fn width(self, j: usize) -> usize {
+        let size = self.size(j);
+        if size == 0 {
+            return page::plus(1, page::digits(j));
+        }
+        size
+    }
+
     // Byte i of a job's name.
     pub fn letter(self, j: usize, i: usize) -> u8 {
         let letters = self.letters;

@@ -201,7 +201,7 @@ pub fn lower(a: usize, b: usize) -> usize {
 }
 
 // How many digits a number of at most five has.
-fn digits(n: usize) -> usize {
+pub fn digits(n: usize) -> usize {
     if n < 10 {
         return 1;
     }

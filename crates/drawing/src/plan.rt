@@ -1,21 +1,10 @@
 // What a plan's bytes say of its tables: nothing is asked of a caller.
-use crate::list;
-use crate::slice::less;
-use planfile::ReadAnswer;
+use jobtext::list;
+use page::less;
 use planfile::high_of;
 use planfile::low_of;
 use verdict::count::entries_before;
 use verdict::count::entry_at;
-
-// What reading says: a plan, or why not.
-pub(crate) fn read(plan: &[u8]) -> ReadAnswer {
-    planfile::read(plan)
-}
-
-// The number of a refusal: 0 for a plan.
-pub(crate) fn refusal(plan: &[u8]) -> usize {
-    planfile::read_number(read(plan))
-}
 
 // The list of a plan.
 pub(crate) fn list_of(plan: &[u8]) -> &[u8] {

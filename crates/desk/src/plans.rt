@@ -1,0 +1,106 @@
+// What building and checking say, on a page. The calls stand here by themselves: what they promise is proved where they are
+// made, and no page needs it.
+use drawing::put_counts;
+use jobtext::Names;
+use merge::Built;
+use page::Page;
+use planfile::ReadAnswer;
+
+// No plan has more bytes.
+pub const PLAN_ROOM: usize = 3216;
+
+// A plan that was built, and how many bytes it has; none where the page says why not.
+pub struct Plan {
+    pub bytes: [u8; PLAN_ROOM],
+    pub size: usize,
+    pub page: Page,
+}
+
+fn built(list: &[u8], plan: &mut [u8]) -> Built {
+    merge::build(list, plan)
+}
+
+fn answer(plan: &[u8]) -> ReadAnswer {
+    planfile::read(plan)
+}
+
+pub(crate) fn list_of(plan: &[u8]) -> &[u8] {
+    planfile::list_of(plan)
+}
+
+// Builds the plan of a list.
+pub(crate) fn build(page: Page, list: &[u8], names: Names) -> Plan {
+    let mut bytes = [0u8; PLAN_ROOM];
+    match built(list, &mut bytes) {
+        Built::Plan(k) => Plan {
+            bytes: bytes,
+            size: k,
+            page: page,
+        },
+        Built::No(w) => Plan {
+            bytes: bytes,
+            size: 0,
+            page: words::tell(page, list, names, words::of_build(w)),
+        },
+    }
+}
+
+// The number of a plan's refusal: 0 where it is accepted.
+fn refusal(plan: &[u8]) -> usize {
+    planfile::read_number(answer(plan))
+}
+
+pub(crate) fn is_accepted(plan: &[u8]) -> bool {
+    refusal(plan) == 0
+}
+
+// Whether a plan is whole, though the check may find a fault in its tables.
+pub(crate) fn is_whole(plan: &[u8]) -> bool {
+    let n = refusal(plan);
+    if n == 0 {
+        return true;
+    }
+    if n < 10 {
+        return false;
+    }
+    n < 13
+}
+
+// The fault of a plan, or why it is none; nothing where it is accepted.
+pub(crate) fn put_fault(page: Page, plan: &[u8], names: Names) -> Page {
+    match answer(plan) {
+        ReadAnswer::Plan(_) => page,
+        ReadAnswer::No(w) => {
+            let no = words::at_spot(planfile::read_why_number(w), planfile::read_why_place(w));
+            words::tell(page, list_of(plan), names, no)
+        }
+    }
+}
+
+// The counts of a plan, after a yes.
+pub(crate) fn put_yes(page: Page, path: &[u8], plan: &[u8]) -> Page {
+    let named = page.put(b"yes: ")
+        .put(path)
+        .put(b", ")
+        .count(plan.len(), b"byte")
+        .put(b": ");
+    put_counts(named, list_of(plan)).end()
+}
+
+// Yes, or the fault.
+pub(crate) fn put_check(page: Page, path: &[u8], plan: &[u8], names: Names) -> Page {
+    if is_accepted(plan) {
+        return put_yes(page, path, plan);
+    }
+    put_fault(page, plan, names)
+}
+
+// Both tables, with the fault where there is one.
+pub(crate) fn put_show(page: Page, plan: &[u8], names: Names) -> Page {
+    let in_colour = libc::isatty(libc::STDOUT_FILENO) == 1;
+    put_fault(
+        drawing::put_tables(page, plan, names, in_colour),
+        plan,
+        names,
+    )
+}
