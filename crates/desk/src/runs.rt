@@ -239,13 +239,18 @@ fn last_line(run: Run, plan: &[u8], names: Names, here: &[u8]) -> Run {
     tick_line(run, plan, names, here).over()
 }
 
+// Sets the byte at a place, where there is one.
+fn set(buf: &mut [u8], i: usize, x: u8) {
+    if i < buf.len() {
+        buf[i] = x;
+    }
+}
+
 // Moves the k bytes from `from` on to the front.
 fn shift(buf: &mut [u8], from: usize, k: usize) {
     for i in 0..k {
         let x = text::byte_at(buf, plus(from, i));
-        if i < buf.len() {
-            buf[i] = x;
-        }
+        set(buf, i, x);
     }
 }
 
@@ -274,7 +279,7 @@ fn turns(page: Page, plan: &[u8], names: Names, fd: i32, buf: &mut [u8]) -> Page
     for i in 0..TURNS {
         run = turn(run, plan, names, fd, buf);
         if run.is_over {
-            break;
+            return run.page;
         }
     }
     run.page
