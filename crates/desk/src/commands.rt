@@ -1,10 +1,8 @@
 // The commands, each with the files that it reads and writes.
-use crate::files;
-use crate::files::complain;
-use crate::files::send;
 use crate::plans;
 use crate::plans::list_of;
-use crate::runs;
+use files::complain;
+use files::send;
 use jobtext::Jobs;
 use jobtext::Names;
 use page::Page;

@@ -1,5 +1,5 @@
 // The help: what there is to do, and how the texts are written.
-use crate::files::send;
+use files::send;
 use page::Page;
 
 fn put_commands(page: Page) -> Page {

@@ -1,9 +1,7 @@
 // desk: the command for the people at the desk. What it does is done by the proved calls; this reads, writes and prints.
 mod commands;
-mod files;
 mod help;
 mod plans;
-mod runs;
 mod story;
 
 use text::same;

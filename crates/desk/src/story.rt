@@ -1,7 +1,6 @@
 // The whole story on a list of its own: a gate, a dish and a decoder share one computer.
-use crate::files::send;
 use crate::plans;
-use crate::runs;
+use files::send;
 use jobtext::Names;
 use page::Page;
 use text::part;

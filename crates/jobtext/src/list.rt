@@ -4,6 +4,7 @@ use joblist::HEAD_BYTES;
 use joblist::JOB_BYTES;
 use joblist::MOST_JOBS;
 use joblist::wide;
+use page::after;
 use text::byte_at;
 
 // The pairs of jobs, and the bytes of a list that has every pair as an edge.
@@ -29,14 +30,6 @@ pub(crate) fn edge_at(n: usize, e: usize) -> usize {
         }
     }
     LIST_ROOM
-}
-
-// The next number.
-pub(crate) fn after(i: usize) -> usize {
-    if i < usize::MAX {
-        return i + 1;
-    }
-    i
 }
 
 // The 16 bits at a place, the low byte first.

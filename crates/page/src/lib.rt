@@ -192,6 +192,14 @@ pub fn plus(a: usize, b: usize) -> usize {
     0
 }
 
+// The next number; the last has none.
+pub fn after(i: usize) -> usize {
+    if i < usize::MAX {
+        return i + 1;
+    }
+    i
+}
+
 // The lower of two numbers.
 pub fn lower(a: usize, b: usize) -> usize {
     if a < b {

@@ -2,8 +2,8 @@
 -- Assumes nothing.
 use native.Mathlib.Omega.{arith}
 use Prim.Native.Nat.{_-_}
-use Rattle.desk.proofs.runs.lines.Statement.{statement}
-use Rattle.desk.proofs.runs.lines.Tie as tie
+use Rattle.runs.proofs.lines.Statement.{statement}
+use Rattle.runs.proofs.lines.Tie as tie
 
 abbrev Inv-loop : tie.InvT-loop
 Inv-loop plan names here run₀ i₀ run i = Unit {0}

@@ -24,19 +24,19 @@ pub enum Piece {
 }
 
 // Sends the rest of a page, and says so where some of it was lost.
-pub(crate) fn send(page: Page) {
+pub fn send(page: Page) {
     if !page.done() {
         os::fail(b"desk: standard output");
     }
 }
 
 // Sends a page to standard error. Where that fails there is nowhere left to say so.
-pub(crate) fn complain(page: Page) {
+pub fn complain(page: Page) {
     page.done();
 }
 
 // One read, behind what is there.
-pub(crate) fn read_more(fd: i32, buf: &mut [u8], have: usize) -> Piece {
+pub fn read_more(fd: i32, buf: &mut [u8], have: usize) -> Piece {
     if buf.len() <= have {
         return Piece::End;
     }
@@ -90,7 +90,7 @@ fn unread() -> File {
 }
 
 // Reads a file.
-pub(crate) fn read(path: &[u8]) -> File {
+pub fn read(path: &[u8]) -> File {
     let fd = os::open_read(path);
     if fd < 0 {
         os::fail(path);
@@ -138,7 +138,7 @@ fn side_of(name: &mut [u8], path: &[u8]) -> usize {
 }
 
 // Writes a file, whole or not at all: first beside it, as PATH.new, and then by a new name.
-pub(crate) fn write(path: &[u8], bytes: &[u8]) -> bool {
+pub fn write(path: &[u8], bytes: &[u8]) -> bool {
     let mut name = [0u8; PATH_ROOM];
     let k = side_of(&mut name, path);
     if write_by(part(&name, 0, k), path, bytes) {

@@ -4,8 +4,8 @@ use native.Mathlib.Omega.{arith}
 use Prim.Native.Nat.{_-_}
 use lib.ListN.{length}
 use mathlib.Core.Path.{_≡_, refl}
-use Rattle.desk.proofs.runs.shift.Statement.{statement}
-use Rattle.desk.proofs.runs.shift.Tie as tie
+use Rattle.runs.proofs.shift.Statement.{statement}
+use Rattle.runs.proofs.shift.Tie as tie
 
 abbrev Inv-loop : tie.InvT-loop
 Inv-loop buf₀ from k i₀ buf i = length buf ≡ length buf₀

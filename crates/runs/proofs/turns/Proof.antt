@@ -4,8 +4,8 @@ use native.Mathlib.Omega.{arith}
 use Prim.Native.Nat.{_-_}
 use lib.ListN.{length}
 use mathlib.Core.Path.{_≡_, refl}
-use Rattle.desk.proofs.runs.turns.Statement.{statement}
-use Rattle.desk.proofs.runs.turns.Tie as tie
+use Rattle.runs.proofs.turns.Statement.{statement}
+use Rattle.runs.proofs.turns.Tie as tie
 
 abbrev Inv-loop : tie.InvT-loop
 Inv-loop plan names fd buf₀ run₀ i₀ buf run i = length buf ≡ length buf₀

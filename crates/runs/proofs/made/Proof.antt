@@ -2,8 +2,8 @@
 -- Assumes nothing.
 use native.Mathlib.Omega.{arith}
 use Prim.Native.Nat.{_-_}
-use Rattle.desk.proofs.runs.made.Statement.{statement}
-use Rattle.desk.proofs.runs.made.Tie as tie
+use Rattle.runs.proofs.made.Statement.{statement}
+use Rattle.runs.proofs.made.Tie as tie
 
 abbrev Inv-loop : tie.InvT-loop
 Inv-loop plan names n run₀ i₀ run i = Unit {0}

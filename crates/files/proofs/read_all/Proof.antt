@@ -4,8 +4,8 @@ use native.Mathlib.Omega.{arith}
 use Prim.Native.Nat.{_-_}
 use lib.ListN.{length}
 use mathlib.Core.Path.{_≡_, refl}
-use Rattle.desk.proofs.files.read_all.Statement.{statement}
-use Rattle.desk.proofs.files.read_all.Tie as tie
+use Rattle.files.proofs.read_all.Statement.{statement}
+use Rattle.files.proofs.read_all.Tie as tie
 
 abbrev Inv-loop : tie.InvT-loop
 Inv-loop fd buf₀ have₀ turn₀ buf have turn = length buf ≡ length buf₀

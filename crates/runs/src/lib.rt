@@ -1,11 +1,10 @@
 // The dispatcher, tick by tick: over a text of ticks and marks, or over ticks made here.
-use crate::files::Piece;
-use crate::files::read_more;
-use crate::plans::list_of;
 use dispatch::answer::Answer;
 use dispatch::answer::Why;
 use dispatch::state::State;
 use dispatch::state::Stepped;
+use files::Piece;
+use files::read_more;
 use joblist::MOST_JOBS;
 use joblist::Place;
 use joblist::wide;
@@ -16,6 +15,7 @@ use jobtext::line::number;
 use jobtext::line::word;
 use jobtext::list;
 use page::Page;
+use page::after;
 use page::less;
 use page::plus;
 use text::find;
@@ -33,7 +33,7 @@ const HELD: usize = 4096;
 
 // How far a run is: the dispatcher's state, what is said, the line, how much of the text is held and how much of that was
 // used, the frame, and whether the state is open and the run over.
-pub struct Run {
+struct Run {
     state: State,
     page: Page,
     line: usize,
@@ -106,14 +106,6 @@ impl Run {
         );
         self.over()
     }
-}
-
-// The next number; none is near the last.
-fn after(i: usize) -> usize {
-    if i < usize::MAX {
-        return i + 1;
-    }
-    i
 }
 
 // The dispatcher's calls: a state before the first tick, one opened at it, and a step.
@@ -286,9 +278,13 @@ fn turns(page: Page, plan: &[u8], names: Names, fd: i32, buf: &mut [u8]) -> Page
 }
 
 // The whole text of a file.
-pub(crate) fn file(page: Page, plan: &[u8], names: Names, fd: i32) -> Page {
+pub fn file(page: Page, plan: &[u8], names: Names, fd: i32) -> Page {
     let mut buf = [0u8; HELD];
     turns(page, plan, names, fd, &mut buf)
+}
+
+fn list_of(plan: &[u8]) -> &[u8] {
+    planfile::list_of(plan)
 }
 
 // How many units a job takes in a frame of made ticks: its high budget in every second frame, if it has one.
@@ -318,7 +314,7 @@ fn made_step(run: Run, plan: &[u8], names: Names, i: usize) -> Run {
 }
 
 // n ticks made here.
-pub(crate) fn made(page: Page, plan: &[u8], names: Names, n: usize) -> Page {
+pub fn made(page: Page, plan: &[u8], names: Names, n: usize) -> Page {
     let mut run = Run::new(page);
     for i in 0..n {
         run = made_step(run, plan, names, i);
