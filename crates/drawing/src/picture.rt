@@ -27,6 +27,15 @@ const BETWEEN: usize = 64;
 
 const MOST_SLOTS: usize = 1024;
 
+// How each kind looks.
+const STYLE: [u8; 410] =
+    *b"<style>text{font:13px ui-monospace,Menlo,Consolas,monospace;fill:#1f2933}
+.head{font-size:15px;font-weight:bold}.title{font-weight:bold}.small{font-size:11px;fill:#7b8794}
+.name{text-anchor:end}.back{fill:#fff}.window{fill:#eef1f5}.high{fill:#e8590c}.low{fill:#1c7ed6}
+.grid{stroke:#e4e7eb}.bracket{fill:none;stroke:#7b8794;stroke-width:1.5}
+.switch{stroke:#c2255c;stroke-width:2;stroke-dasharray:5 4}</style>
+";
+
 // The measures of a picture: where slot 0 begins, the width of a slot, and the rows of a table.
 struct Sheet {
     left: usize,
@@ -317,19 +326,6 @@ fn each_switch(page: Page, plan: &[u8], sheet: Sheet) -> Page {
     to
 }
 
-// How each kind looks.
-fn style(page: Page) -> Page {
-    page.line(b"<style>text{font:13px ui-monospace,Menlo,Consolas,monospace;fill:#1f2933}")
-        .line(
-            b".head{font-size:15px;font-weight:bold}.title{font-weight:bold}.small{font-size:11px;fill:#7b8794}",
-        )
-        .line(
-            b".name{text-anchor:end}.back{fill:#fff}.window{fill:#eef1f5}.high{fill:#e8590c}.low{fill:#1c7ed6}",
-        )
-        .line(b".grid{stroke:#e4e7eb}.bracket{fill:none;stroke:#7b8794;stroke-width:1.5}")
-        .line(b".switch{stroke:#c2255c;stroke-width:2;stroke-dasharray:5 4}</style>")
-}
-
 // The size, in which the picture is drawn and may be scaled.
 fn size(page: Page, w: usize, h: usize) -> Page {
     let fixed = attribute(attribute(page, b" width=\"", w), b" height=\"", h);
@@ -338,7 +334,7 @@ fn size(page: Page, w: usize, h: usize) -> Page {
 
 fn head(page: Page, w: usize, h: usize) -> Page {
     let opened = size(page.put(b"<svg xmlns=\"http://www.w3.org/2000/svg\""), w, h);
-    rectangle(style(opened.line(b">")), b"back", 0, 0, w, h)
+    rectangle(opened.line(b">").put(&STYLE), b"back", 0, 0, w, h)
 }
 
 // What a colour says.
