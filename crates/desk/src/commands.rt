@@ -75,10 +75,11 @@ pub(crate) fn build(from: &[u8], to: &[u8]) {
     }
 }
 
-// The names of a plan's jobs; and whether they were found, or why not was said.
+// The names of a plan's jobs; whether they were found, or why not was said; and whether they are of another list.
 struct Named {
     names: Names,
     is_read: bool,
+    is_other: bool,
 }
 
 // By their numbers, where no text is given.
@@ -87,24 +88,23 @@ fn names_of(from: &[u8], plan: &[u8]) -> Named {
         return Named {
             names: Names::none(),
             is_read: true,
+            is_other: false,
         };
     }
     let listed = read_jobs(from);
     let jobs = listed.jobs;
     let list = jobs.list;
-    if listed.is_read {
-        note(part(&list, 0, jobs.size), plan);
-    }
     let names = jobs.names;
     Named {
         names: names,
         is_read: listed.is_read,
+        is_other: !same(part(&list, 0, jobs.size), list_of(plan)),
     }
 }
 
 // Says so where the names are of another list than the plan's.
-fn note(list: &[u8], plan: &[u8]) {
-    if !same(list, list_of(plan)) {
+fn note(is_other: bool) {
+    if is_other {
         let page = Page::errors();
         complain(page.line(b"note: the job list is not the plan's; the names are given by order"));
     }
@@ -120,6 +120,7 @@ fn check_plan(path: &[u8], from: &[u8], plan: &[u8]) {
     if named.is_read {
         let names = named.names;
         send(plans::put_check(Page::output(), path, plan, names));
+        note(named.is_other);
     }
 }
 
@@ -151,6 +152,7 @@ fn show_plan(from: &[u8], plan: &[u8], is_svg: bool) {
     if named.is_read {
         let names = named.names;
         draw(plan, names, is_svg);
+        note(named.is_other);
     }
 }
 
@@ -206,6 +208,7 @@ fn run_plan(from: &[u8], plan: &[u8], ticks: &[u8]) {
     if named.is_read {
         if is_runnable(plan, names) {
             run_ticks(ticks, plan, names);
+            note(named.is_other);
         }
     }
 }
@@ -235,6 +238,7 @@ fn run_made_plan(from: &[u8], plan: &[u8], count: &[u8]) {
     if named.is_read {
         if is_runnable(plan, names) {
             run_many(count, plan, names);
+            note(named.is_other);
         }
     }
 }
