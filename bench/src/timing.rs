@@ -1,9 +1,22 @@
 //! Times two calls against each other.
 
-use std::time::{Duration, Instant};
+use std::time::Duration;
 
 const REPEATS: usize = 21;
 const LEAST: Duration = Duration::from_millis(10);
+
+/// CLOCK_THREAD_CPUTIME_ID.
+const THREAD_CLOCK: i32 = 3;
+
+#[repr(C)]
+struct Timespec {
+    seconds: u64,
+    nanoseconds: u64,
+}
+
+extern "C" {
+    fn clock_gettime(clock: i32, time: *mut Timespec) -> i32;
+}
 
 /// Medians: nanoseconds of each side, and the ratio with its quartiles.
 pub struct Timed {
@@ -57,11 +70,20 @@ fn enough(call: &mut impl FnMut()) -> usize {
 
 /// The nanoseconds of one call.
 fn run(call: &mut impl FnMut(), calls: usize) -> f64 {
-    let start = Instant::now();
+    let start = processor_time();
     for _ in 0..calls {
         call();
     }
-    start.elapsed().as_nanos() as f64 / calls as f64
+    (processor_time() - start).as_nanos() as f64 / calls as f64
+}
+
+/// What this thread has run so far: what other programs take of the processor does not count.
+fn processor_time() -> Duration {
+    let mut time = Timespec { seconds: 0, nanoseconds: 0 };
+    // SAFETY: `time` is written, and is laid out as C has it on a 64-bit Linux.
+    let status = unsafe { clock_gettime(THREAD_CLOCK, &mut time) };
+    assert_eq!(status, 0, "no clock for processor time");
+    Duration::from_secs(time.seconds) + Duration::from_nanos(time.nanoseconds)
 }
 
 /// A quartile: 2 is the median.
