@@ -98,7 +98,7 @@ fn time_of(nanoseconds: f64) -> String {
     if nanoseconds < 1e3 {
         format!("{nanoseconds:.0} ns")
     } else if nanoseconds < 1e6 {
-        format!("{:.1} µs", nanoseconds / 1e3)
+        format!("{:.2} µs", nanoseconds / 1e3)
     } else {
         format!("{:.2} ms", nanoseconds / 1e6)
     }
