@@ -1,0 +1,13 @@
+//! The desk in plain Rust: the same rules and the same loops as the proved crates, over the same
+//! bytes. It allocates nothing, and every index is checked.
+
+pub mod build;
+pub mod check;
+pub mod dispatch;
+mod hitable;
+mod late;
+pub mod list;
+mod lotable;
+
+/// The table entry for no job.
+pub const IDLE: u8 = 255;
