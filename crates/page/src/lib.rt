@@ -2,8 +2,14 @@
 //
 // Nothing is asked of a caller, and no piece is left out: one that is longer than a page goes by itself. Blanks are held
 // back until something follows them, so that no line ends in one.
+mod number;
+
 use libc::STDERR_FILENO;
 use libc::STDOUT_FILENO;
+pub use number::after;
+pub use number::less;
+pub use number::lower;
+pub use number::plus;
 use text::part;
 
 // The bytes of a page.
@@ -108,9 +114,7 @@ impl Page {
 
     // Puts the decimal digits of a number.
     pub fn number(self, n: usize) -> Self {
-        let mut digits = [0u8; 20];
-        let k = number_in(&mut digits, n);
-        self.put(part(&digits, 0, k))
+        self.number_left(n, 0)
     }
 
     // Holds back k blanks.
@@ -142,7 +146,9 @@ impl Page {
 
     // A number, and blanks up to k columns.
     pub fn number_left(self, n: usize, k: usize) -> Self {
-        self.number(n).blank(less(k, digits(n)))
+        let mut digits = [0u8; 20];
+        let size = number_in(&mut digits, n);
+        self.left(part(&digits, 0, size), k)
     }
 
     // A number, with blanks before it up to k columns.
@@ -174,53 +180,8 @@ fn number_in(bytes: &mut [u8], n: usize) -> usize {
     text::put_number(bytes, 0, n)
 }
 
-// The difference; 0 where it would be below 0.
-pub fn less(a: usize, b: usize) -> usize {
-    if b < a {
-        return a - b;
-    }
-    0
-}
-
-// The sum of two small numbers.
-pub fn plus(a: usize, b: usize) -> usize {
-    if a < 1000000 {
-        if b < 1000000 {
-            return a + b;
-        }
-    }
-    0
-}
-
-// The next number; the last has none.
-pub fn after(i: usize) -> usize {
-    if i < usize::MAX {
-        return i + 1;
-    }
-    i
-}
-
-// The lower of two numbers.
-pub fn lower(a: usize, b: usize) -> usize {
-    if a < b {
-        return a;
-    }
-    b
-}
-
-// How many digits a number of at most five has.
+// How many digits a number has.
 pub fn digits(n: usize) -> usize {
-    if n < 10 {
-        return 1;
-    }
-    if n < 100 {
-        return 2;
-    }
-    if n < 1000 {
-        return 3;
-    }
-    if n < 10000 {
-        return 4;
-    }
-    5
+    let mut bytes = [0u8; 20];
+    number_in(&mut bytes, n)
 }
