@@ -149,3 +149,9 @@ unfolding allOf
 one-fails [] k h = sym h
 one-fails (b ∷ l) zero h = ap (λ x. x && allOf l) (sym h)
 one-fails (b ∷ l) (suc k) h = sym (and-false b) ∙ ap (λ x. b && x) (one-fails l k h)
+
+-- a test that holds at each number below n
+pub all-each : (f : ℕ → Bool) (n : ℕ) → ((i : ℕ) → i < n → f i ≡ true) → allBelow f n ≡ true
+unfolding allBelow
+all-each f zero h = refl
+all-each f (suc n) h = rw (all-each f n (λ i l. h i (omega arith))) (h n (omega arith))

@@ -1,7 +1,7 @@
 -- Laws of `pick`, and that the choice by earliest deadline is what its name says.
 -- Assumes nothing.
 use Prim.Native.Nat.{ℕ, zero, suc, _+_, _≤_, _<_}
-use mathlib.Core.Path.{_≡_, refl, sym, ap, _∙_}
+use mathlib.Core.Path.{_≡_, refl, sym, ap, ap₂, _∙_}
 use mathlib.Core.Logic.{_⊎_, inl, inr}
 use mathlib.Core.Bool.{Bool, true, false, cond, _&&_, _||_}
 use native.Mathlib.Numerals.{add-one}
@@ -84,3 +84,24 @@ module _ (ready : ℕ → Bool) (d : ℕ → ℕ) where
 
   pub earliest-ready : (n : ℕ) → n ≤ 255 → (earliest ready d n ≡ 255 → ⊥) → ready (earliest ready d n) ≡ true
   earliest-ready n l h = elim (earliest-is n l) [ inl c ↦ absurd (h (c .0)) | inr c ↦ c .isReady ]
+
+-- the choice between two values of a function
+pub pick-map : {A B : Type 0} (f : A → B) (b : Bool) {p q : B} (x y : A) → p ≡ f x → q ≡ f y → pick b p q ≡ f (pick b x y)
+unfolding pick
+pick-map f true x y h k = h
+pick-map f false x y h k = k
+
+-- two readiness tests that agree on the jobs choose the same
+pub earliest-same : (f g : ℕ → Bool) (d : ℕ → ℕ) (n : ℕ) → ((j : ℕ) → j < n → f j ≡ g j) → earliest f d n ≡ earliest g d n
+unfolding earliest
+earliest-same f g d zero h = refl
+earliest-same f g d (suc n) h =
+    ap₂ (λ b best. cond (b && (eqb best 255 || ltb (d n) (d best))) n best) (h n (omega arith)) (earliest-same f g d n (λ j l. h j (omega arith)))
+
+-- one more job: a ready job is weighed against the choice so far, another is passed over
+module _ (ready : ℕ → Bool) (d : ℕ → ℕ) (n best : ℕ) (so-far : best ≡ earliest ready d n) where
+  pub weighed : ready n ≡ true → preferred (λ _. true) d best n ≡ earliest ready d (n + 1)
+  weighed e = sym (rw (earliest-step ready d n, ← so-far, e))
+
+  pub passed : ready n ≡ false → best ≡ earliest ready d (n + 1)
+  passed e = sym (rw (earliest-step ready d n, ← so-far, e))

@@ -83,3 +83,25 @@ module _ (f : ℕ → Bool) where
   pub highest-step : (t n : ℕ) → highest f t (n + 1) ≡ cond (f n) n (highest f t n)
   unfolding highest
   highest-step t n = rw add-one
+
+-- the lowest from i to n - 1 that passes, as a loop seeks it: found here, one number on, and the end
+abbrev pub findFrom : (ℕ → Bool) → ℕ → ℕ → Option ℕ
+findFrom f n i = find f (n - i) i
+
+module _ (f : ℕ → Bool) (n : ℕ) where
+  pub find-start : find f n 0 ≡ findFrom f n 0
+  find-start = ap (λ (k : ℕ). find f k 0) (let e : n ≡ n - 0 = omega arith in e)
+
+  pub find-here : (i : ℕ) → i < n → f i ≡ true → findFrom f n i ≡ some i
+  find-here i l p =
+      ap (λ (k : ℕ). find f k i) (let e : n - i ≡ suc (n - (i + 1)) = omega arith in e) ∙ find-yes f (n - (i + 1)) i p
+
+  pub find-on : (i : ℕ) → i < n → f i ≡ false → findFrom f n i ≡ findFrom f n (i + 1)
+  find-on i l p =
+      ap (λ (k : ℕ). find f k i) (let e : n - i ≡ suc (n - (i + 1)) = omega arith in e)
+      ∙ find-no f (n - (i + 1)) i p
+      ∙ ap (λ (y : ℕ). find f (n - (i + 1)) y) (let e : suc i ≡ i + 1 = omega arith in e)
+
+  pub find-end : (i : ℕ) → n ≤ i → findFrom f n i ≡ none
+  unfolding find
+  find-end i l = ap (λ (k : ℕ). find f k i) (let e : n - i ≡ 0 = omega arith in e)

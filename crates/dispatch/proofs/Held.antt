@@ -18,7 +18,7 @@ use Rattle.dispatch.specs.Scan.{bump, namedIn, choiceIn}
 use Rattle.dispatch.specs.Machine.{bookOf, moveOf, withSlot, withLast, withHalted, openFrameOf, orderOf, goOf, stepOf}
 use Rattle.dispatch.specs.Runs.{Given, Each, answersBy, stateBy, answersOf, stateOf, Words, Held}
 use Rattle.dispatch.proofs.Did.{refused-has, Did, refused, taken, Booked, was-idle, was-job, did}
-use Rattle.dispatch.proofs.General.{set-each, zeros-at}
+use Rattle.basics.proofs.At.{set-each, zeros-at}
 
 words-set : (k n : ℕ) (l : List ℕ) (j v : ℕ) → v < 2 ^ k → Words k n l → Words k n (set l j v)
 words-set k n l j v h w =

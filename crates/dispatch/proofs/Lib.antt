@@ -1,4 +1,3 @@
-pub mod General
 pub mod Marks
 pub mod Facts
 pub mod Book

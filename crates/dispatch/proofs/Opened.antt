@@ -37,7 +37,7 @@ use Rattle.dispatch.specs.Numbers.{answerNumber}
 use Rattle.dispatch.specs.Runs.{Given, Each, answersOf}
 use Rattle.dispatch.proofs.Steps.{step-bad}
 use Rattle.dispatch.proofs.Sound.{fresh-sound, never-37}
-use Rattle.dispatch.proofs.General.{all-each}
+use Rattle.basics.proofs.Below.{all-each}
 use Rattle.dispatch.proofs.Entries.{entries-same, entries-at}
 
 -- what the code reads is what the definition says

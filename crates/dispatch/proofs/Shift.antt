@@ -16,7 +16,7 @@ use Rattle.dispatch.specs.declared.tick.Tick.the-variants.{Next, Same, L
 use Rattle.dispatch.specs.Tick.{difference, tickOf}
 use Rattle.dispatch.specs.Machine.{stateOk, bookOf, moveOf, openFrameOf, withSlot, withLast, orderOf, goOf, endOf, nextOf, onTick, stepOf, says}
 use Rattle.dispatch.specs.Runs.{Given, Each, answersBy, stateBy, answersOf, stateOf, laterGiven, laterState}
-use Rattle.dispatch.proofs.General.{pick-map}
+use Rattle.basics.proofs.Choice.{pick-map}
 use Rattle.dispatch.proofs.Did.{refused-has, Did, refused, taken, did}
 
 -- a tick d later on a state d later says the same

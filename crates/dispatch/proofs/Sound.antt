@@ -12,7 +12,7 @@ use Rattle.basics.specs.Choice.{pick}
 use Rattle.basics.specs.Limits.{Limits}
 use Rattle.basics.proofs.Tests.{not-both}
 use Rattle.basics.proofs.Choice.{pick-both}
-use Rattle.basics.proofs.Below.{all-at}
+use Rattle.basics.proofs.Below.{all-at, all-each}
 use Rattle.basics.specs.Marks.{idle}
 use Rattle.dispatch.specs.declared.plan.Plan.{Plan}
 use Rattle.dispatch.specs.declared.state.State.{State}
@@ -21,7 +21,7 @@ use Rattle.dispatch.specs.Scan.{byteOk, unitsOk, bump, choiceIn}
 use Rattle.dispatch.specs.Machine.{planOk, stateOk, bookOf, moveOf, openFrameOf, withSlot, withLast, orderOf, goOf, freshOf, stepOf}
 use Rattle.dispatch.specs.Numbers.{answerNumber}
 use Rattle.dispatch.specs.Runs.{Given, Each, answersBy, answersOf}
-use Rattle.dispatch.proofs.General.{all-each, set-each, zeros-at}
+use Rattle.basics.proofs.At.{set-each, zeros-at}
 use Rattle.dispatch.proofs.Facts.{plan-facts, state-facts, state-sound, named-ok, job-below}
 use Rattle.dispatch.proofs.Did.{refused-has, is-bad, is-halted, is-same, is-stale, is-lost, has-no-job, is-past, Did, refused, taken, Booked, was-idle, was-job, did}
 

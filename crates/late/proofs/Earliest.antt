@@ -11,12 +11,11 @@ use lib.ListN.{length, set, length-set}
 use lib.Dec.{leb, ltb, eqb}
 use Rattle.basics.specs.Choice.{earliest}
 use Rattle.basics.specs.Units.{unitsOf}
-use Rattle.basics.proofs.Choice.{earliest-is}
+use Rattle.basics.proofs.Choice.{earliest-is, earliest-same}
 use Rattle.basics.proofs.Below.{any-same}
 use Rattle.joblist.specs.Fields.{jobs, edges, arrival, deadline, edgeFrom, edgeTo}
 use Rattle.late.specs.Table.{marked, waits}
 use Rattle.late.specs.Late.{ready, takes, unfinished, chosen, edfAt}
-use Rattle.late.proofs.General.{earliest-same}
 use Rattle.late.proofs.Units.{Counted}
 
 -- a choice is a byte

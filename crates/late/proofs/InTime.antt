@@ -16,7 +16,7 @@ use Rattle.late.specs.declared.Late.{Late}
 use Rattle.late.specs.declared.Late.the-variants.{Fine, At}
 use Rattle.late.specs.Late.{orElse, lateAt, takes, unfinished, chosen, lateIn, lateAnswer}
 use Rattle.basics.proofs.Below.{any-found, any-hit}
-use Rattle.late.proofs.General.{turns-each}
+use Rattle.basics.proofs.Turns.{turns-each}
 use Rattle.late.proofs.EdfTable.{units-later, owed, free, edf-most}
 
 fine-both : (x y : Late) → orElse x y ≡ Fine → (x ≡ Fine) × (y ≡ Fine)

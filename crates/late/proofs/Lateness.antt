@@ -8,12 +8,11 @@ use native.Mathlib.Omega.{arith}
 use borrow.Author.Tests.{eq-eqb, ne-eqb}
 use lib.Dec.{eqb}
 use Rattle.basics.specs.Turns.{turns}
-use Rattle.basics.proofs.Turns.{turns-step, turns-end}
+use Rattle.basics.proofs.Turns.{turns-step, turns-end, turns-same}
 use Rattle.joblist.specs.Fields.{jobs, slots, deadline}
 use Rattle.late.specs.declared.Late.{Late}
 use Rattle.late.specs.declared.Late.the-variants.{Fine, At}
 use Rattle.late.specs.Late.{orElse, lateAt, lateIn}
-use Rattle.late.proofs.General.{turns-same}
 
 module _ (s : List ℕ) (undone : ℕ → Bool) (t : ℕ) where
   -- what the jobs from j on answer

@@ -23,7 +23,7 @@ use Rattle.late.specs.Late.{lateOf}
 use Rattle.late.proofs.Units.{one, units-step, units-zero, units-set, units-set-at}
 use Rattle.late.proofs.First.{tlo-long, thi-long}
 use Rattle.late.proofs.Kept.{late-units}
-use Rattle.late.proofs.General.{turns-each}
+use Rattle.basics.proofs.Turns.{turns-each}
 use Rattle.lotable.specs.declared.Pick.{Pick}
 use Rattle.lotable.specs.declared.Pick.the-variants.{Low, High, Idle, Both, Early}
 use Rattle.lotable.specs.declared.Clash.{Clash}

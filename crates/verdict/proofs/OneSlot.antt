@@ -14,7 +14,7 @@ use Rattle.frame.specs.Jobs.{Frame}
 use Rattle.frame.specs.Search.{lateJob, owed}
 use Rattle.frame.specs.TwoLevels.{needsHI}
 use Rattle.joblist.specs.Fields.{arrival, deadline, high, level, ordinary}
-use Rattle.verdict.proofs.Find.{find-start, findFrom}
+use Rattle.basics.proofs.Find.{find-start, findFrom}
 use Rattle.verdict.specs.FrameOf.{frameWith}
 use Rattle.verdict.specs.Inner.{edgeAt, square}
 

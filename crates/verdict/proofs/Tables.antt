@@ -19,7 +19,8 @@ use Rattle.joblist.specs.Answer.{listAnswer}
 use Rattle.joblist.specs.Cycle.{Named}
 use Rattle.joblist.specs.Fields.{edgeIn, edges, jobs, listBytes, slots}
 use Rattle.joblist.specs.declared.ListAnswer.the-variants.{Good}
-use Rattle.verdict.proofs.Find.{find-start, findFrom, first-none, first-some}
+use Rattle.basics.proofs.Find.{find-start, findFrom}
+use Rattle.verdict.proofs.Find.{first-none, first-some}
 use Rattle.verdict.proofs.WellFormed.{well-formed}
 use Rattle.verdict.specs.Answer.{_⨾_, entryAnswer, faultOf, oddEntry, searchAnswer, switchOf, tablesAnswer}
 use Rattle.verdict.specs.Count.{entryAt}

@@ -1,13 +1,12 @@
 -- `late::choose` meets its contract: the choice among the jobs below j.
 -- Assumes nothing.
-use Rattle.late.proofs.General.{weighed, passed}
+use Rattle.basics.proofs.Choice.{weighed, passed, earliest-zero, earliest-below}
 use mathlib.Core.Path.{_≡_, _∙_, sym}
 use Prim.Native.Nat.{_≤_, _-_}
 use mathlib.Core.Logic.{inl, inr}
 use Rattle.joblist.specs.Fields.{jobs, deadline}
 use Rattle.late.specs.Table.{marked}
 use Rattle.basics.specs.Choice.{earliest}
-use Rattle.basics.proofs.Choice.{earliest-zero, earliest-below}
 use Rattle.late.specs.Late.{ready}
 use borrow.Author.Needs.{needs}
 use native.Mathlib.Omega.{arith}

@@ -5,7 +5,7 @@ use Prim.Native.Nat.{_-_, _≤_}
 use native.Mathlib.Omega.{arith}
 use borrow.Author.Needs.{needs}
 use lib.ListN.{length}
-use Rattle.verdict.proofs.Find.{find-end, find-here, find-on, findFrom}
+use Rattle.basics.proofs.Find.{find-end, find-here, find-on, findFrom}
 use Rattle.verdict.proofs.Tables.{odd-at, odd-from, oddTest}
 use Rattle.verdict.specs.Answer.{oddEntry}
 use Rattle.verdict.specs.Inner.{firstOf}

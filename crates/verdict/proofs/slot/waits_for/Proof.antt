@@ -6,7 +6,7 @@ use Prim.Native.Nat.{_-_, _≤_}
 use native.Mathlib.Omega.{arith}
 use Rattle.basics.specs.Units.{unitsOf}
 use Rattle.frame.specs.Execution.{waitsFor}
-use Rattle.verdict.proofs.Find.{find-end, find-here, find-on, findFrom}
+use Rattle.basics.proofs.Find.{find-end, find-here, find-on, findFrom}
 use Rattle.verdict.proofs.OneSlot.{waitTest, waits-from}
 use Rattle.verdict.specs.Inner.{firstOf, square}
 use Rattle.verdict.proofs.slot.waits_for.Statement.{statement}
