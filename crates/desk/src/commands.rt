@@ -22,24 +22,21 @@ struct Listed {
 // Reads a text of jobs.
 fn read_jobs(path: &[u8]) -> Listed {
     let file = files::read(path);
+    if !file.is_read {
+        return Listed {
+            jobs: Jobs::none(),
+            is_read: false,
+        };
+    }
     let bytes = file.bytes;
     let jobs = jobtext::read(part(&bytes, 0, file.size));
-    if file.is_read {
-        if jobs.line != 0 {
-            complain(jobtext::put_mistake(Page::errors(), path, jobs));
-        }
+    if jobs.line != 0 {
+        complain(jobtext::put_mistake(Page::errors(), path, jobs));
     }
     Listed {
         jobs: jobs,
-        is_read: is_sound(file.is_read, jobs.line),
+        is_read: jobs.line == 0,
     }
-}
-
-fn is_sound(is_read: bool, line: usize) -> bool {
-    if is_read {
-        return line == 0;
-    }
-    false
 }
 
 // desk words
@@ -202,26 +199,6 @@ fn run_ticks(ticks: &[u8], plan: &[u8], names: Names) {
     send(page);
 }
 
-fn run_plan(from: &[u8], plan: &[u8], ticks: &[u8]) {
-    let named = names_of(from, plan);
-    let names = named.names;
-    if named.is_read {
-        if is_runnable(plan, names) {
-            run_ticks(ticks, plan, names);
-            note(named.is_other);
-        }
-    }
-}
-
-// desk run PLAN TICKS [JOBS]
-pub(crate) fn run_file(path: &[u8], ticks: &[u8], from: &[u8]) {
-    let file = files::read(path);
-    if file.is_read {
-        let bytes = file.bytes;
-        run_plan(from, part(&bytes, 0, file.size), ticks);
-    }
-}
-
 fn run_many(count: &[u8], plan: &[u8], names: Names) {
     match text::number(count, MOST_MADE) {
         Decimal::Is(n) => send(runs::made(Page::output(), plan, names, n)),
@@ -232,22 +209,31 @@ fn run_many(count: &[u8], plan: &[u8], names: Names) {
     }
 }
 
-fn run_made_plan(from: &[u8], plan: &[u8], count: &[u8]) {
+// Runs a file of ticks, or as many made here as its words say.
+fn run_by(ticks: &[u8], is_made: bool, plan: &[u8], names: Names) {
+    if is_made {
+        run_many(ticks, plan, names);
+        return;
+    }
+    run_ticks(ticks, plan, names);
+}
+
+fn run_plan(from: &[u8], plan: &[u8], ticks: &[u8], is_made: bool) {
     let named = names_of(from, plan);
     let names = named.names;
     if named.is_read {
         if is_runnable(plan, names) {
-            run_many(count, plan, names);
+            run_by(ticks, is_made, plan, names);
             note(named.is_other);
         }
     }
 }
 
-// desk run PLAN --demo N [JOBS]
-pub(crate) fn run_made(path: &[u8], count: &[u8], from: &[u8]) {
+// desk run PLAN TICKS [JOBS], and desk run PLAN --demo N [JOBS]
+pub(crate) fn run(path: &[u8], ticks: &[u8], is_made: bool, from: &[u8]) {
     let file = files::read(path);
     if file.is_read {
         let bytes = file.bytes;
-        run_made_plan(from, part(&bytes, 0, file.size), count);
+        run_plan(from, part(&bytes, 0, file.size), ticks, is_made);
     }
 }

@@ -21,10 +21,10 @@ fn show(b: &[u8], c: &[u8], d: &[u8]) {
 
 fn run(b: &[u8], c: &[u8], d: &[u8], e: &[u8]) {
     if same(c, b"--demo") {
-        commands::run_made(b, d, e);
+        commands::run(b, d, true, e);
         return;
     }
-    commands::run_file(b, c, d);
+    commands::run(b, c, false, d);
 }
 
 // The commands that are given two files or more.
