@@ -1,4 +1,7 @@
 // The fields of a line, split by one blank: two blanks make an empty field.
+use text::find;
+use text::part;
+use text::same;
 
 // No request has more fields.
 const MOST_FIELDS: usize = 5;
@@ -9,22 +12,11 @@ pub(crate) struct Fields {
     pub ends: [usize; MOST_FIELDS],
 }
 
-// The bytes from `from` to `to`, where they are there.
-pub(crate) fn part(s: &[u8], from: usize, to: usize) -> &[u8] {
-    if s.len() < to {
-        return &s[0..0];
-    }
-    if to < from {
-        return &s[0..0];
-    }
-    &s[from..to]
-}
-
 pub(crate) fn split(line: &[u8]) -> Fields {
     let mut ends = [0usize; MOST_FIELDS];
     let mut from: usize = 0;
     for k in 0..MOST_FIELDS {
-        let e = text::find(line, from, b' ');
+        let e = find(line, from, b' ');
         ends[k] = e;
         if e == line.len() {
             return Fields {
@@ -53,4 +45,19 @@ pub(crate) fn field(line: &[u8], f: Fields, k: usize) -> &[u8] {
         std::num::wrapping_add_usize(f.ends[k - 1], 1),
         f.ends[k],
     )
+}
+
+// Which of the names, split by blanks, a field is; how many there are where it is none of them.
+pub(crate) fn place_in(names: &[u8], s: &[u8]) -> usize {
+    let mut k: usize = 0;
+    let mut from: usize = 0;
+    while from < names.len() {
+        let e = find(names, from, b' ');
+        if same(part(names, from, e), s) {
+            return k;
+        }
+        k += 1;
+        from = e + 1;
+    }
+    k
 }

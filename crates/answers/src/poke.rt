@@ -1,5 +1,5 @@
 // One field of the dispatcher's state, by its name: set to any value that it can hold.
-use check::same;
+use crate::fields::place_in;
 use dispatch::plan::Plan;
 use dispatch::state::State;
 use joblist::MOST_EDGES;
@@ -43,71 +43,37 @@ pub(crate) struct Kind {
 }
 
 fn part_of(name: &[u8]) -> Part {
-    if same(name, b"l") {
-        return Part::L;
+    let names = b"l n m arrival deadline clo chi level from to lo hi";
+    match place_in(names, name) {
+        0 => Part::L,
+        1 => Part::N,
+        2 => Part::M,
+        3 => Part::Arrival,
+        4 => Part::Deadline,
+        5 => Part::Clo,
+        6 => Part::Chi,
+        7 => Part::Level,
+        8 => Part::From,
+        9 => Part::To,
+        10 => Part::Lo,
+        11 => Part::Hi,
+        _ => Part::Unknown,
     }
-    if same(name, b"n") {
-        return Part::N;
-    }
-    if same(name, b"m") {
-        return Part::M;
-    }
-    if same(name, b"arrival") {
-        return Part::Arrival;
-    }
-    if same(name, b"deadline") {
-        return Part::Deadline;
-    }
-    if same(name, b"clo") {
-        return Part::Clo;
-    }
-    if same(name, b"chi") {
-        return Part::Chi;
-    }
-    if same(name, b"level") {
-        return Part::Level;
-    }
-    if same(name, b"from") {
-        return Part::From;
-    }
-    if same(name, b"to") {
-        return Part::To;
-    }
-    if same(name, b"lo") {
-        return Part::Lo;
-    }
-    if same(name, b"hi") {
-        return Part::Hi;
-    }
-    Part::Unknown
 }
 
 pub(crate) fn field_of(name: &[u8]) -> Field {
-    if same(name, b"slot") {
-        return Field::Slot;
+    let names = b"slot tick ordered high halted units done cut";
+    match place_in(names, name) {
+        0 => Field::Slot,
+        1 => Field::Tick,
+        2 => Field::Ordered,
+        3 => Field::High,
+        4 => Field::Halted,
+        5 => Field::Units,
+        6 => Field::Done,
+        7 => Field::Cut,
+        _ => Field::OfPlan(part_of(name)),
     }
-    if same(name, b"tick") {
-        return Field::Tick;
-    }
-    if same(name, b"ordered") {
-        return Field::Ordered;
-    }
-    if same(name, b"high") {
-        return Field::High;
-    }
-    if same(name, b"halted") {
-        return Field::Halted;
-    }
-    if same(name, b"units") {
-        return Field::Units;
-    }
-    if same(name, b"done") {
-        return Field::Done;
-    }
-    if same(name, b"cut") {
-        return Field::Cut;
-    }
-    Field::OfPlan(part_of(name))
 }
 
 fn word(places: usize) -> Kind {

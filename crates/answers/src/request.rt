@@ -1,172 +1,106 @@
-// What a line asks: its word and its fields, read. Bytes are decoded into a room of their own, one after the other.
+// What a line asks: its word and its fields, read.
+use crate::decoded::Decoded;
+use crate::decoded::is_there;
 use crate::fields::Fields;
 use crate::fields::field;
-use crate::fields::split;
+use crate::fields::place_in;
 use crate::poke::Field;
 use crate::poke::field_of;
 use crate::poke::kind_of;
-use check::same;
 use text::Decimal;
-use text::Unhexed;
 
-// No number is larger, and no more bytes are read or lent.
+// No number is larger, and no more bytes are lent.
 const MOST_NUMBER: usize = 65535;
-
-const MOST_BYTES: usize = 65536;
 
 pub(crate) const MOST_ROOM: usize = 4096;
 
-// Where decoded bytes stand.
-pub(crate) struct Span {
-    pub from: usize,
-    pub to: usize,
-}
-
-// A list with two tables.
-pub(crate) struct Tables {
-    pub list: Span,
-    pub lo: Span,
-    pub hi: Span,
-}
-
+// A request with its numbers; its bytes are decoded.
 pub(crate) enum Request {
-    List(Span),
-    Check(Tables),
-    Write(Tables, usize),
-    Build(Span, usize),
-    Read(Span),
-    Open(Span, usize),
+    List,
+    Check,
+    Write(usize),
+    Build(usize),
+    Read,
+    Open(usize),
     Step(usize, bool),
     Poke(Field, usize, usize),
     Unreadable,
 }
 
-enum Bytes {
-    At(Span),
-    Not,
+// Whether a line has so many fields, and bytes to that end.
+fn has(f: Fields, count: usize, end: usize) -> bool {
+    if f.count != count {
+        return false;
+    }
+    is_there(end)
 }
 
-enum Three {
-    At(Tables),
-    Not,
+fn number(line: &[u8], f: Fields, k: usize, most: usize) -> Decimal {
+    text::number(field(line, f, k), most)
 }
 
-// The bytes of field k, from `at` on.
-fn bytes_of(line: &[u8], f: Fields, k: usize, room: &mut [u8], at: usize) -> Bytes {
-    let s = field(line, f, k);
-    if same(s, b"-") {
-        return Bytes::At(Span { from: at, to: at });
+fn read_list(f: Fields, d: Decoded) -> Request {
+    if has(f, 2, d.list) {
+        return Request::List;
     }
-    if s.len() == 0 {
-        return Bytes::Not;
+    Request::Unreadable
+}
+
+fn read_check(f: Fields, d: Decoded) -> Request {
+    if has(f, 4, d.hi) {
+        return Request::Check;
     }
-    if 2 * MOST_BYTES < s.len() {
-        return Bytes::Not;
+    Request::Unreadable
+}
+
+fn read_write(line: &[u8], f: Fields, d: Decoded) -> Request {
+    if !has(f, 5, d.hi) {
+        return Request::Unreadable;
     }
-    match text::put_unhex(room, at, s) {
-        Unhexed::To(to) => Bytes::At(Span { from: at, to: to }),
-        Unhexed::Not => Bytes::Not,
+    match number(line, f, 4, MOST_ROOM) {
+        Decimal::Is(lent) => Request::Write(lent),
+        Decimal::Not => Request::Unreadable,
     }
 }
 
-// The bytes of fields 1 to 3.
-fn tables_of(line: &[u8], f: Fields, room: &mut [u8]) -> Three {
-    let Bytes::At(list) = bytes_of(line, f, 1, room, 0) else {
-        return Three::Not;
-    };
-    let Bytes::At(lo) = bytes_of(line, f, 2, room, list.to) else {
-        return Three::Not;
-    };
-    let Bytes::At(hi) = bytes_of(line, f, 3, room, lo.to) else {
-        return Three::Not;
-    };
-    Three::At(Tables {
-        list: list,
-        lo: lo,
-        hi: hi,
-    })
-}
-
-fn read_list(line: &[u8], f: Fields, room: &mut [u8]) -> Request {
-    if f.count != 2 {
+fn read_build(line: &[u8], f: Fields, d: Decoded) -> Request {
+    if !has(f, 3, d.list) {
         return Request::Unreadable;
     }
-    let Bytes::At(list) = bytes_of(line, f, 1, room, 0) else {
-        return Request::Unreadable;
-    };
-    Request::List(list)
+    match number(line, f, 2, MOST_ROOM) {
+        Decimal::Is(lent) => Request::Build(lent),
+        Decimal::Not => Request::Unreadable,
+    }
 }
 
-fn read_check(line: &[u8], f: Fields, room: &mut [u8]) -> Request {
-    if f.count != 4 {
-        return Request::Unreadable;
+fn read_read(f: Fields, d: Decoded) -> Request {
+    if has(f, 2, d.list) {
+        return Request::Read;
     }
-    let Three::At(tables) = tables_of(line, f, room) else {
-        return Request::Unreadable;
-    };
-    Request::Check(tables)
+    Request::Unreadable
 }
 
-fn read_write(line: &[u8], f: Fields, room: &mut [u8]) -> Request {
-    if f.count != 5 {
+fn read_open(line: &[u8], f: Fields, d: Decoded) -> Request {
+    if !has(f, 3, d.list) {
         return Request::Unreadable;
     }
-    let Three::At(tables) = tables_of(line, f, room) else {
-        return Request::Unreadable;
-    };
-    let Decimal::Is(lent) = text::number(field(line, f, 4), MOST_ROOM) else {
-        return Request::Unreadable;
-    };
-    Request::Write(tables, lent)
-}
-
-fn read_build(line: &[u8], f: Fields, room: &mut [u8]) -> Request {
-    if f.count != 3 {
-        return Request::Unreadable;
+    match number(line, f, 2, MOST_NUMBER) {
+        Decimal::Is(first) => Request::Open(first),
+        Decimal::Not => Request::Unreadable,
     }
-    let Bytes::At(list) = bytes_of(line, f, 1, room, 0) else {
-        return Request::Unreadable;
-    };
-    let Decimal::Is(lent) = text::number(field(line, f, 2), MOST_ROOM) else {
-        return Request::Unreadable;
-    };
-    Request::Build(list, lent)
-}
-
-fn read_read(line: &[u8], f: Fields, room: &mut [u8]) -> Request {
-    if f.count != 2 {
-        return Request::Unreadable;
-    }
-    let Bytes::At(plan) = bytes_of(line, f, 1, room, 0) else {
-        return Request::Unreadable;
-    };
-    Request::Read(plan)
-}
-
-fn read_open(line: &[u8], f: Fields, room: &mut [u8]) -> Request {
-    if f.count != 3 {
-        return Request::Unreadable;
-    }
-    let Bytes::At(plan) = bytes_of(line, f, 1, room, 0) else {
-        return Request::Unreadable;
-    };
-    let Decimal::Is(first) = text::number(field(line, f, 2), MOST_NUMBER) else {
-        return Request::Unreadable;
-    };
-    Request::Open(plan, first)
 }
 
 fn read_step(line: &[u8], f: Fields) -> Request {
     if f.count != 3 {
         return Request::Unreadable;
     }
-    let Decimal::Is(tick) = text::number(field(line, f, 1), MOST_NUMBER) else {
+    let Decimal::Is(tick) = number(line, f, 1, MOST_NUMBER) else {
         return Request::Unreadable;
     };
-    let Decimal::Is(ended) = text::number(field(line, f, 2), 1) else {
-        return Request::Unreadable;
-    };
-    Request::Step(tick, ended == 1)
+    match number(line, f, 2, 1) {
+        Decimal::Is(ended) => Request::Step(tick, ended == 1),
+        Decimal::Not => Request::Unreadable,
+    }
 }
 
 fn read_poke(line: &[u8], f: Fields) -> Request {
@@ -175,44 +109,29 @@ fn read_poke(line: &[u8], f: Fields) -> Request {
     }
     let name = field_of(field(line, f, 1));
     let kind = kind_of(name);
-    let Decimal::Is(i) = text::number(field(line, f, 2), MOST_NUMBER) else {
+    let Decimal::Is(i) = number(line, f, 2, MOST_NUMBER) else {
         return Request::Unreadable;
     };
     if kind.places <= i {
         return Request::Unreadable;
     }
-    let Decimal::Is(v) = text::number(field(line, f, 3), kind.most) else {
-        return Request::Unreadable;
-    };
-    Request::Poke(name, i, v)
+    match number(line, f, 3, kind.most) {
+        Decimal::Is(v) => Request::Poke(name, i, v),
+        Decimal::Not => Request::Unreadable,
+    }
 }
 
-pub(crate) fn request_of(line: &[u8], room: &mut [u8]) -> Request {
-    let f = split(line);
-    let word = field(line, f, 0);
-    if same(word, b"list") {
-        return read_list(line, f, room);
+pub(crate) fn request_of(line: &[u8], f: Fields, d: Decoded) -> Request {
+    let words = b"list check write build read open step poke";
+    match place_in(words, field(line, f, 0)) {
+        0 => read_list(f, d),
+        1 => read_check(f, d),
+        2 => read_write(line, f, d),
+        3 => read_build(line, f, d),
+        4 => read_read(f, d),
+        5 => read_open(line, f, d),
+        6 => read_step(line, f),
+        7 => read_poke(line, f),
+        _ => Request::Unreadable,
     }
-    if same(word, b"check") {
-        return read_check(line, f, room);
-    }
-    if same(word, b"write") {
-        return read_write(line, f, room);
-    }
-    if same(word, b"build") {
-        return read_build(line, f, room);
-    }
-    if same(word, b"read") {
-        return read_read(line, f, room);
-    }
-    if same(word, b"open") {
-        return read_open(line, f, room);
-    }
-    if same(word, b"step") {
-        return read_step(line, f);
-    }
-    if same(word, b"poke") {
-        return read_poke(line, f);
-    }
-    Request::Unreadable
 }
