@@ -32,8 +32,8 @@ pub(crate) fn open(plan: &[u8], first: usize) -> Opened {
     dispatch::open::open(plan, (first % 65536) as u16)
 }
 
-pub(crate) fn step(s: State, tick: usize, ended: bool) -> Stepped {
-    s.step((tick % 65536) as u16, ended)
+pub(crate) fn step(s: State, tick: usize, ended: usize) -> Stepped {
+    s.step((tick % 65536) as u16, ended == 1)
 }
 
 pub(crate) fn zero() -> State {

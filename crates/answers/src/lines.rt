@@ -1,7 +1,6 @@
 // Lines in, lines out: what is read stays in the input until its line ends.
 use crate::call;
 use crate::decoded::decode;
-use crate::fields::split;
 use crate::reply::Desk;
 use crate::reply::reply;
 use crate::request::request_of;
@@ -58,9 +57,8 @@ fn readable(line: &[u8]) -> &[u8] {
 
 // Answers a line.
 fn answer(desk: Desk, line: &[u8], room: &mut [u8]) -> Desk {
-    let f = split(line);
-    let b = decode(line, f, room);
-    reply(desk, request_of(line, f, b), room, b)
+    let b = decode(line, room);
+    reply(desk, request_of(line, b), room, b)
 }
 
 // Answers every line that ends in the input.
@@ -79,13 +77,25 @@ fn take_lines(desk: Desk, input: &[u8], room: &mut [u8]) -> Taken {
     }
 }
 
-// Reads what comes next behind the bytes that are kept.
+// Ends the last line of the input, where it is not empty.
+fn end_last(input: &mut [u8], held: usize) -> usize {
+    if held == 0 {
+        return 0;
+    }
+    text::put(input, held, b"\n")
+}
+
+// Reads behind the bytes that are kept: how many there are then, 0 when all of the input was taken.
 fn read_behind(input: &mut [u8], held: usize) -> usize {
     if input.len() < held {
         return 0;
     }
     let got = libc::read(STDIN_FILENO, &mut input[held..]);
-    io::count(got, &input[held..])
+    let n = io::count(got, &input[held..]);
+    if n == 0 {
+        return end_last(input, held);
+    }
+    plus(held, n)
 }
 
 // Moves k bytes from a place to the start.
@@ -110,14 +120,13 @@ fn keep(input: &mut [u8], from: usize, size: usize) -> usize {
 
 // One read, with the answers to what it ends.
 fn turn(run: Run, input: &mut [u8], room: &mut [u8]) -> Run {
-    let n = read_behind(input, run.held);
-    let size = plus(run.held, n);
+    let size = read_behind(input, run.held);
     let t = take_lines(run.desk, part(input, 0, size), room);
     let desk = t.desk.sent();
     Run {
         desk: desk,
         held: keep(input, t.from, size),
-        is_over: n == 0,
+        is_over: size == 0,
     }
 }
 
@@ -133,17 +142,9 @@ fn take_all(start: Run, input: &mut [u8], room: &mut [u8]) -> Run {
     run
 }
 
-// A last line without its newline is answered too.
-fn finish(run: Run, input: &[u8], room: &mut [u8]) {
-    if 0 < run.held {
-        answer(run.desk, readable(part(input, 0, run.held)), room).sent();
-    }
-}
-
 // The whole run.
 pub(crate) fn answer_all() {
     let mut input = [0u8; INPUT];
     let mut room = [0u8; MOST_DECODED];
-    let run = take_all(fresh(), &mut input, &mut room);
-    finish(run, &input, &mut room);
+    take_all(fresh(), &mut input, &mut room);
 }

@@ -4,7 +4,6 @@ use crate::decoded::Decoded;
 use crate::decoded::hi_in;
 use crate::decoded::list_in;
 use crate::decoded::lo_in;
-use crate::poke::Field;
 use crate::poke::poke;
 use crate::request::MOST_ROOM;
 use crate::request::Request;
@@ -29,15 +28,6 @@ pub(crate) struct Desk {
 }
 
 impl Desk {
-    // Ends the line of an answer.
-    fn ended(self) -> Self {
-        let state = self.state;
-        Desk {
-            page: self.page.end(),
-            state: state,
-        }
-    }
-
     // Sends the answers that are gathered.
     pub(crate) fn sent(self) -> Self {
         let state = self.state;
@@ -59,11 +49,8 @@ fn reply_list(page: Page, list: &[u8]) -> Page {
 // The write into lent bytes, and all of them afterwards.
 fn write_into(page: Page, list: &[u8], lo: &[u8], hi: &[u8], lent: &mut [u8]) -> Page {
     let w = call::write(list, lo, hi, lent);
-    let next = put_spot(
-        page.number(planfile::wrote_number(w)),
-        planfile::wrote_place(w),
-    );
-    put_bytes(next, b" out=", lent)
+    let next = page.number(planfile::wrote_number(w));
+    put_bytes(put_spot(next, planfile::wrote_place(w)), b" out=", lent)
 }
 
 fn reply_write(page: Page, list: &[u8], lo: &[u8], hi: &[u8], n: usize) -> Page {
@@ -76,8 +63,8 @@ fn reply_write(page: Page, list: &[u8], lo: &[u8], hi: &[u8], n: usize) -> Page 
 
 fn build_into(page: Page, list: &[u8], lent: &mut [u8]) -> Page {
     let b = call::build(list, lent);
-    let next = put_build_place(page.number(merge::built_number(b)), merge::built_place(b));
-    put_bytes(next, b" out=", lent)
+    let next = page.number(merge::built_number(b));
+    put_bytes(put_build_place(next, merge::built_place(b)), b" out=", lent)
 }
 
 fn reply_build(page: Page, list: &[u8], n: usize) -> Page {
@@ -126,7 +113,7 @@ fn put_order(page: Page, a: Answer) -> Page {
     }
 }
 
-fn reply_step(d: Desk, tick: usize, ended: bool) -> Desk {
+fn reply_step(d: Desk, tick: usize, ended: usize) -> Desk {
     let r = call::step(d.state, tick, ended);
     let a = r.answer;
     let state = r.state;
@@ -137,7 +124,7 @@ fn reply_step(d: Desk, tick: usize, ended: bool) -> Desk {
     }
 }
 
-fn reply_poke(d: Desk, f: Field, i: usize, v: usize) -> Desk {
+fn reply_poke(d: Desk, f: usize, i: usize, v: usize) -> Desk {
     let state = poke(d.state, f, i, v);
     Desk {
         page: put_state(d.page.put(b"0"), state),
@@ -157,8 +144,8 @@ fn reply_bytes(page: Page, r: Request, list: &[u8], lo: &[u8], hi: &[u8]) -> Pag
     }
 }
 
-// What a request makes of the desk, its bytes being decoded.
-fn replied(d: Desk, r: Request, room: &[u8], b: Decoded) -> Desk {
+// The answer to a request whose bytes are decoded.
+pub(crate) fn reply(d: Desk, r: Request, room: &[u8], b: Decoded) -> Desk {
     let list = list_in(room, b);
     let state = d.state;
     match r {
@@ -166,13 +153,8 @@ fn replied(d: Desk, r: Request, room: &[u8], b: Decoded) -> Desk {
         Request::Step(tick, ended) => reply_step(d, tick, ended),
         Request::Poke(f, i, v) => reply_poke(d, f, i, v),
         _ => Desk {
-            page: reply_bytes(d.page, r, list, lo_in(room, b), hi_in(room, b)),
+            page: reply_bytes(d.page, r, list, lo_in(room, b), hi_in(room, b)).end(),
             state: state,
         },
     }
-}
-
-// The answer to a request, and its newline.
-pub(crate) fn reply(d: Desk, r: Request, room: &[u8], b: Decoded) -> Desk {
-    replied(d, r, room, b).ended()
 }

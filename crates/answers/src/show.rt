@@ -68,14 +68,13 @@ fn put_values(page: Page, s: State) -> Page {
         .number(mark(s.halted))
 }
 
-// A state without jobs, or with too many, has nothing to show.
+// The state, to the end of its line. One without jobs, or with too many, has nothing to show.
 pub(crate) fn put_state(page: Page, s: State) -> Page {
     let n = wide(s.plan.n);
-    if n < 1 {
-        return page.put(b" | -");
+    if 0 < n {
+        if n <= MOST_JOBS {
+            return put_rows(put_values(page, s), s, n).end();
+        }
     }
-    if MOST_JOBS < n {
-        return page.put(b" | -");
-    }
-    put_rows(put_values(page, s), s, n)
+    page.line(b" | -")
 }
