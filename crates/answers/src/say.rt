@@ -45,7 +45,8 @@ fn put_fault(page: Page, f: Fault) -> Page {
         Fault::Late(t, j, x) => put_switch(put_slot_job(page, t, j), x),
         Fault::Early(t, j, x) => put_switch(put_slot_job(page, t, j), x),
         Fault::Before(t, j, p, x) => {
-            put_switch(put_slot_job(page, t, j).put(b" pred=").number(p), x)
+            let job = put_slot_job(page, t, j);
+            put_switch(job.put(b" pred=").number(p), x)
         }
     }
 }
