@@ -1,7 +1,6 @@
 // The bytes that a line's fields say in hex, decoded into a room of their own, one after the other.
 use crate::fields::field;
 use text::Unhexed;
-use text::part;
 use text::same;
 
 // No field says more bytes.
@@ -10,7 +9,7 @@ const MOST_BYTES: usize = 65536;
 // Stands for an end or a number that is not there. Nothing is decoded behind such an end.
 pub(crate) const NONE: usize = usize::MAX;
 
-// Where the bytes of fields 1 to 3 end, each behind those before it.
+// Where the bytes of fields 1 to 3 end, each behind those before it: a list or a plan, and two tables.
 pub(crate) struct Decoded {
     pub list: usize,
     pub lo: usize,
@@ -48,17 +47,4 @@ pub(crate) fn decode(line: &[u8], room: &mut [u8]) -> Decoded {
         lo: lo,
         hi: hi,
     }
-}
-
-// The bytes of field 1: a list or a plan.
-pub(crate) fn list_in(room: &[u8], d: Decoded) -> &[u8] {
-    part(room, 0, d.list)
-}
-
-pub(crate) fn lo_in(room: &[u8], d: Decoded) -> &[u8] {
-    part(room, d.list, d.lo)
-}
-
-pub(crate) fn hi_in(room: &[u8], d: Decoded) -> &[u8] {
-    part(room, d.lo, d.hi)
 }

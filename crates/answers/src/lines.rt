@@ -82,7 +82,11 @@ fn end_last(input: &mut [u8], held: usize) -> usize {
     if held == 0 {
         return 0;
     }
-    text::put(input, held, b"\n")
+    if held < input.len() {
+        input[held] = b'\n';
+        return held + 1;
+    }
+    0
 }
 
 // Reads behind the bytes that are kept: how many there are then, 0 when all of the input was taken.
@@ -131,15 +135,14 @@ fn turn(run: Run, input: &mut [u8], room: &mut [u8]) -> Run {
 }
 
 // Reads to the end of the input. A proved loop ends, and nothing says that the input does: so turns are counted, to a number that no run reaches.
-fn take_all(start: Run, input: &mut [u8], room: &mut [u8]) -> Run {
+fn take_all(start: Run, input: &mut [u8], room: &mut [u8]) {
     let mut run = start;
     for i in 0..u64::MAX {
         run = turn(run, input, room);
         if run.is_over {
-            return run;
+            return;
         }
     }
-    run
 }
 
 // The whole run.

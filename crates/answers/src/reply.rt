@@ -1,9 +1,6 @@
 // The answer to each request, by the proved calls.
 use crate::call;
 use crate::decoded::Decoded;
-use crate::decoded::hi_in;
-use crate::decoded::list_in;
-use crate::decoded::lo_in;
 use crate::poke::poke;
 use crate::request::MOST_ROOM;
 use crate::request::Request;
@@ -17,6 +14,7 @@ use dispatch::answer::Answer;
 use dispatch::state::State;
 use page::Page;
 use planfile::ReadAnswer;
+use text::part;
 
 // What lent bytes hold before a call.
 const LENT: u8 = 0xaa;
@@ -146,14 +144,16 @@ fn reply_bytes(page: Page, r: Request, list: &[u8], lo: &[u8], hi: &[u8]) -> Pag
 
 // The answer to a request whose bytes are decoded.
 pub(crate) fn reply(d: Desk, r: Request, room: &[u8], b: Decoded) -> Desk {
-    let list = list_in(room, b);
+    let list = part(room, 0, b.list);
+    let lo = part(room, b.list, b.lo);
+    let hi = part(room, b.lo, b.hi);
     let state = d.state;
     match r {
         Request::Open(first) => reply_open(d.page, list, first),
         Request::Step(tick, ended) => reply_step(d, tick, ended),
         Request::Poke(f, i, v) => reply_poke(d, f, i, v),
         _ => Desk {
-            page: reply_bytes(d.page, r, list, lo_in(room, b), hi_in(room, b)).end(),
+            page: reply_bytes(d.page, r, list, lo, hi).end(),
             state: state,
         },
     }
