@@ -3,6 +3,7 @@ use crate::call;
 use crate::decoded::decode;
 use crate::reply::Desk;
 use crate::reply::reply;
+use crate::request::MOST_LINE;
 use crate::request::request_of;
 use libc::STDIN_FILENO;
 use page::Page;
@@ -11,9 +12,6 @@ use page::lower;
 use page::plus;
 use text::find;
 use text::part;
-
-// A longer line is not kept, and is answered as one that cannot be read.
-const MOST_LINE: usize = 400000;
 
 // All that a line's digits can say.
 const MOST_DECODED: usize = MOST_LINE / 2;
@@ -47,14 +45,6 @@ fn fresh() -> Run {
     }
 }
 
-// A line that is too long is answered as an empty one is: neither can be read.
-fn readable(line: &[u8]) -> &[u8] {
-    if MOST_LINE < line.len() {
-        return &line[0..0];
-    }
-    line
-}
-
 // Answers a line.
 fn answer(desk: Desk, line: &[u8], room: &mut [u8]) -> Desk {
     let b = decode(line, room);
@@ -67,7 +57,7 @@ fn take_lines(desk: Desk, input: &[u8], room: &mut [u8]) -> Taken {
     let mut from: usize = 0;
     let mut e = find(input, 0, b'\n');
     while e < input.len() {
-        d = answer(d, readable(part(input, from, e)), room);
+        d = answer(d, part(input, from, e), room);
         from = e + 1;
         e = find(input, from, b'\n');
     }

@@ -8,6 +8,9 @@ use crate::poke::field_of;
 use crate::poke::kind_of;
 use text::Decimal;
 
+// A longer line is not kept, and cannot be read.
+pub(crate) const MOST_LINE: usize = 400000;
+
 // No number is larger, and no more bytes are lent.
 const MOST_NUMBER: usize = 65535;
 
@@ -34,8 +37,11 @@ fn number(line: &[u8], k: usize, most: usize) -> usize {
     }
 }
 
-// The request, where the line has so many fields, and an end and a number are there.
+// The request, where the line is not too long and has so many fields, and an end and a number are there.
 fn asked(r: Request, line: &[u8], fields: usize, end: usize, n: usize) -> Request {
+    if MOST_LINE < line.len() {
+        return Request::Unreadable;
+    }
     if count(line) != fields {
         return Request::Unreadable;
     }

@@ -2,7 +2,6 @@
 use dispatch::state::State;
 use joblist::MOST_JOBS;
 use page::Page;
-use text::byte_at;
 
 // A mark is shown as 0 or 1.
 fn mark(x: u8) -> usize {
@@ -16,9 +15,16 @@ fn wide(x: u16) -> usize {
     x as usize
 }
 
-fn count_at(counts: &[u16; MOST_JOBS], j: usize) -> usize {
+fn count_at(counts: [u16; MOST_JOBS], j: usize) -> usize {
     if j < MOST_JOBS {
         return wide(counts[j]);
+    }
+    0
+}
+
+fn mark_at(marks: [u8; MOST_JOBS], j: usize) -> usize {
+    if j < MOST_JOBS {
+        return mark(marks[j]);
     }
     0
 }
@@ -31,7 +37,7 @@ fn put_item(page: Page, j: usize, x: usize) -> Page {
     page.put(b",").number(x)
 }
 
-fn put_counts(start: Page, counts: &[u16; MOST_JOBS], n: usize) -> Page {
+fn put_counts(start: Page, counts: [u16; MOST_JOBS], n: usize) -> Page {
     let mut page = start;
     for j in 0..n {
         page = put_item(page, j, count_at(counts, j));
@@ -39,19 +45,22 @@ fn put_counts(start: Page, counts: &[u16; MOST_JOBS], n: usize) -> Page {
     page
 }
 
-fn put_marks(start: Page, marks: &[u8; MOST_JOBS], n: usize) -> Page {
+fn put_marks(start: Page, marks: [u8; MOST_JOBS], n: usize) -> Page {
     let mut page = start;
     for j in 0..n {
-        page = put_item(page, j, mark(byte_at(marks, j)));
+        page = put_item(page, j, mark_at(marks, j));
     }
     page
 }
 
 // The rows of the first n jobs.
 fn put_rows(page: Page, s: State, n: usize) -> Page {
-    let units = put_counts(page.put(b" units="), &s.units, n);
-    let done = put_marks(units.put(b" done="), &s.done, n);
-    put_marks(done.put(b" cut="), &s.cut, n)
+    let units = s.units;
+    let done = s.done;
+    let cut = s.cut;
+    let counted = put_counts(page.put(b" units="), units, n);
+    let ended = put_marks(counted.put(b" done="), done, n);
+    put_marks(ended.put(b" cut="), cut, n)
 }
 
 fn put_values(page: Page, s: State) -> Page {

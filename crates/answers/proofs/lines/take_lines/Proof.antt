@@ -23,9 +23,6 @@ loop-holds c = refl
 part-requires : tie.Need-part-requires Inv-loop μ-loop
 part-requires c κs = tt
 
-readable-requires : tie.Need-readable-requires Inv-loop μ-loop
-readable-requires c κs = tt
-
 answer-requires : tie.Need-answer-requires Inv-loop μ-loop
 answer-requires c κs = tt
 
@@ -56,7 +53,6 @@ take-lines-spec =
     find-requires
     loop-holds
     part-requires
-    readable-requires
     answer-requires
     add-from
     find-requires-2

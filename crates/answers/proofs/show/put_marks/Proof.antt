@@ -14,11 +14,8 @@ abbrev μ-loop : tie.MeasureT-loop
 loop-holds : tie.Need-loop-holds Inv-loop μ-loop
 loop-holds c = tt
 
-byte-at-requires : tie.Need-byte-at-requires Inv-loop μ-loop
-byte-at-requires c κs = tt
-
-mark-requires : tie.Need-mark-requires Inv-loop μ-loop
-mark-requires c κs = tt
+mark-at-requires : tie.Need-mark-at-requires Inv-loop μ-loop
+mark-at-requires c κs = tt
 
 put-item-requires : tie.Need-put-item-requires Inv-loop μ-loop
 put-item-requires c κs = tt
@@ -42,8 +39,7 @@ put-marks-spec =
     Inv-loop
     μ-loop
     loop-holds
-    byte-at-requires
-    mark-requires
+    mark-at-requires
     put-item-requires
     add-j
     loop-less
