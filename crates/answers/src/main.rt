@@ -1,4 +1,6 @@
 // Requests on standard input, answers on standard output, a line each: what outside programs are compared with.
+mod call;
+mod decoded;
 mod fields;
 mod lines;
 mod poke;

@@ -1,40 +1,11 @@
-// One field of the dispatcher's state, by its name: set to any value that it can hold.
-use check::same;
+// One field of the dispatcher's state: set to any value that it can hold. Fields are numbered in the order of their names,
+// which goes by kind.
+use crate::fields::place_in;
 use dispatch::plan::Plan;
 use dispatch::state::State;
 use joblist::MOST_EDGES;
 use joblist::MOST_JOBS;
 use joblist::MOST_SLOTS;
-
-// The fields of the plan that a state holds.
-pub(crate) enum Part {
-    L,
-    N,
-    M,
-    Arrival,
-    Deadline,
-    Clo,
-    Chi,
-    Level,
-    From,
-    To,
-    Lo,
-    Hi,
-    Unknown,
-}
-
-// The fields of a state.
-pub(crate) enum Field {
-    Slot,
-    Tick,
-    Ordered,
-    High,
-    Halted,
-    Units,
-    Done,
-    Cut,
-    OfPlan(Part),
-}
 
 // How many places a field has, and the largest value of one.
 pub(crate) struct Kind {
@@ -42,185 +13,114 @@ pub(crate) struct Kind {
     pub most: usize,
 }
 
-fn part_of(name: &[u8]) -> Part {
-    if same(name, b"l") {
-        return Part::L;
-    }
-    if same(name, b"n") {
-        return Part::N;
-    }
-    if same(name, b"m") {
-        return Part::M;
-    }
-    if same(name, b"arrival") {
-        return Part::Arrival;
-    }
-    if same(name, b"deadline") {
-        return Part::Deadline;
-    }
-    if same(name, b"clo") {
-        return Part::Clo;
-    }
-    if same(name, b"chi") {
-        return Part::Chi;
-    }
-    if same(name, b"level") {
-        return Part::Level;
-    }
-    if same(name, b"from") {
-        return Part::From;
-    }
-    if same(name, b"to") {
-        return Part::To;
-    }
-    if same(name, b"lo") {
-        return Part::Lo;
-    }
-    if same(name, b"hi") {
-        return Part::Hi;
-    }
-    Part::Unknown
+// Which field has a name.
+pub(crate) fn field_of(name: &[u8]) -> usize {
+    place_in(
+        b"slot tick l n m ordered high halted units arrival deadline clo chi done cut level from to lo hi",
+        name,
+    )
 }
 
-pub(crate) fn field_of(name: &[u8]) -> Field {
-    if same(name, b"slot") {
-        return Field::Slot;
-    }
-    if same(name, b"tick") {
-        return Field::Tick;
-    }
-    if same(name, b"ordered") {
-        return Field::Ordered;
-    }
-    if same(name, b"high") {
-        return Field::High;
-    }
-    if same(name, b"halted") {
-        return Field::Halted;
-    }
-    if same(name, b"units") {
-        return Field::Units;
-    }
-    if same(name, b"done") {
-        return Field::Done;
-    }
-    if same(name, b"cut") {
-        return Field::Cut;
-    }
-    Field::OfPlan(part_of(name))
-}
-
-fn word(places: usize) -> Kind {
+fn words(places: usize) -> Kind {
     Kind {
         places: places,
         most: 65535,
     }
 }
 
-fn byte(places: usize) -> Kind {
+fn bytes(places: usize) -> Kind {
     Kind {
         places: places,
         most: 255,
     }
 }
 
-// What is unknown has no place.
-fn kind_of_part(p: Part) -> Kind {
-    match p {
-        Part::L => word(1),
-        Part::N => word(1),
-        Part::M => word(1),
-        Part::Arrival => word(MOST_JOBS),
-        Part::Deadline => word(MOST_JOBS),
-        Part::Clo => word(MOST_JOBS),
-        Part::Chi => word(MOST_JOBS),
-        Part::Level => byte(MOST_JOBS),
-        Part::From => byte(MOST_EDGES),
-        Part::To => byte(MOST_EDGES),
-        Part::Lo => byte(MOST_SLOTS),
-        Part::Hi => byte(MOST_SLOTS),
-        Part::Unknown => word(0),
-    }
-}
-
-pub(crate) fn kind_of(f: Field) -> Kind {
+// What is no field has no place.
+pub(crate) fn kind_of(f: usize) -> Kind {
     match f {
-        Field::Slot => word(1),
-        Field::Tick => word(1),
-        Field::Ordered => byte(1),
-        Field::High => byte(1),
-        Field::Halted => byte(1),
-        Field::Units => word(MOST_JOBS),
-        Field::Done => byte(MOST_JOBS),
-        Field::Cut => byte(MOST_JOBS),
-        Field::OfPlan(p) => kind_of_part(p),
+        0..=4 => words(1),
+        5..=7 => bytes(1),
+        8..=12 => words(MOST_JOBS),
+        13..=15 => bytes(MOST_JOBS),
+        16..=17 => bytes(MOST_EDGES),
+        18..=19 => bytes(MOST_SLOTS),
+        _ => words(0),
     }
 }
 
-fn word_of(v: usize) -> u16 {
-    (v % 65536) as u16
-}
-
-fn byte_of(v: usize) -> u8 {
-    (v % 256) as u8
-}
-
-fn put_word(places: &mut [u16; MOST_JOBS], i: usize, v: u16) {
+// A plan's values by job.
+fn poke_job(mut plan: Plan, f: usize, i: usize, w: u16, b: u8) -> Plan {
     if i < MOST_JOBS {
-        places[i] = v;
-    }
-}
-
-fn put_byte(places: &mut [u8; MOST_JOBS], i: usize, v: u8) {
-    if i < MOST_JOBS {
-        places[i] = v;
-    }
-}
-
-fn put_edge(places: &mut [u8; MOST_EDGES], i: usize, v: u8) {
-    if i < MOST_EDGES {
-        places[i] = v;
-    }
-}
-
-fn put_entry(places: &mut [u8; MOST_SLOTS], i: usize, v: u8) {
-    if i < MOST_SLOTS {
-        places[i] = v;
-    }
-}
-
-fn poke_plan(mut plan: Plan, p: Part, i: usize, v: usize) -> Plan {
-    match p {
-        Part::L => plan.len = word_of(v),
-        Part::N => plan.n = word_of(v),
-        Part::M => plan.m = word_of(v),
-        Part::Arrival => put_word(&mut plan.arrival, i, word_of(v)),
-        Part::Deadline => put_word(&mut plan.deadline, i, word_of(v)),
-        Part::Clo => put_word(&mut plan.clo, i, word_of(v)),
-        Part::Chi => put_word(&mut plan.chi, i, word_of(v)),
-        Part::Level => put_byte(&mut plan.level, i, byte_of(v)),
-        Part::From => put_edge(&mut plan.from, i, byte_of(v)),
-        Part::To => put_edge(&mut plan.to, i, byte_of(v)),
-        Part::Lo => put_entry(&mut plan.lo, i, byte_of(v)),
-        Part::Hi => put_entry(&mut plan.hi, i, byte_of(v)),
-        Part::Unknown => {}
+        match f {
+            9 => plan.arrival[i] = w,
+            10 => plan.deadline[i] = w,
+            11 => plan.clo[i] = w,
+            12 => plan.chi[i] = w,
+            _ => plan.level[i] = b,
+        }
     }
     plan
 }
 
-// The state with v in place i of a field.
-pub(crate) fn poke(mut s: State, f: Field, i: usize, v: usize) -> State {
+// Its edges.
+fn poke_edge(mut plan: Plan, f: usize, i: usize, b: u8) -> Plan {
+    if i < MOST_EDGES {
+        match f {
+            16 => plan.from[i] = b,
+            _ => plan.to[i] = b,
+        }
+    }
+    plan
+}
+
+// Its tables.
+fn poke_table(mut plan: Plan, f: usize, i: usize, b: u8) -> Plan {
+    if i < MOST_SLOTS {
+        match f {
+            18 => plan.lo[i] = b,
+            _ => plan.hi[i] = b,
+        }
+    }
+    plan
+}
+
+fn poke_plan(mut plan: Plan, f: usize, i: usize, w: u16, b: u8) -> Plan {
     match f {
-        Field::Slot => s.slot = word_of(v),
-        Field::Tick => s.last = word_of(v),
-        Field::Ordered => s.ordered = byte_of(v),
-        Field::High => s.high = byte_of(v),
-        Field::Halted => s.halted = byte_of(v),
-        Field::Units => put_word(&mut s.units, i, word_of(v)),
-        Field::Done => put_byte(&mut s.done, i, byte_of(v)),
-        Field::Cut => put_byte(&mut s.cut, i, byte_of(v)),
-        Field::OfPlan(p) => {
-            let plan = poke_plan(s.plan, p, i, v);
+        2 => plan.len = w,
+        3 => plan.n = w,
+        4 => plan.m = w,
+        16 | 17 => plan = poke_edge(plan, f, i, b),
+        18 | 19 => plan = poke_table(plan, f, i, b),
+        _ => plan = poke_job(plan, f, i, w, b),
+    }
+    plan
+}
+
+// A state's values by job.
+fn poke_row(mut s: State, f: usize, i: usize, w: u16, b: u8) -> State {
+    if i < MOST_JOBS {
+        match f {
+            8 => s.units[i] = w,
+            13 => s.done[i] = b,
+            _ => s.cut[i] = b,
+        }
+    }
+    s
+}
+
+// The state with v in place i of a field.
+pub(crate) fn poke(mut s: State, f: usize, i: usize, v: usize) -> State {
+    let w = (v % 65536) as u16;
+    let b = (v % 256) as u8;
+    match f {
+        0 => s.slot = w,
+        1 => s.last = w,
+        5 => s.ordered = b,
+        6 => s.high = b,
+        7 => s.halted = b,
+        8 | 13 | 14 => s = poke_row(s, f, i, w, b),
+        _ => {
+            let plan = poke_plan(s.plan, f, i, w, b);
             s.plan = plan;
         }
     }

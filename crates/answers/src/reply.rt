@@ -1,164 +1,160 @@
 // The answer to each request, by the proved calls.
-use crate::fields::part;
-use crate::poke::Field;
+use crate::call;
+use crate::decoded::Decoded;
 use crate::poke::poke;
 use crate::request::MOST_ROOM;
 use crate::request::Request;
-use crate::request::Span;
-use crate::request::Tables;
 use crate::say::put_build_place;
 use crate::say::put_bytes;
 use crate::say::put_place;
 use crate::say::put_spot;
-use crate::say::put_value;
+use crate::say::put_verdict;
 use crate::show::put_state;
 use dispatch::answer::Answer;
 use dispatch::state::State;
+use page::Page;
 use planfile::ReadAnswer;
+use text::part;
 
 // What lent bytes hold before a call.
 const LENT: u8 = 0xaa;
 
-// The place after the answer, and the dispatcher's state.
-pub(crate) struct Replied {
-    pub at: usize,
+// The answers, and the dispatcher's state.
+pub(crate) struct Desk {
+    pub page: Page,
     pub state: State,
 }
 
-fn bytes_at(room: &[u8], s: Span) -> &[u8] {
-    part(room, s.from, s.to)
-}
-
-fn reply_list(room: &[u8], list: Span, out: &mut [u8], at: usize) -> usize {
-    let a = joblist::check_list(bytes_at(room, list));
-    let next = text::put_number(out, at, joblist::answer_number(a));
-    put_place(out, next, joblist::answer_place(a))
-}
-
-fn reply_check(room: &[u8], t: Tables, out: &mut [u8], at: usize) -> usize {
-    let v = verdict::check(
-        bytes_at(room, t.list),
-        bytes_at(room, t.lo),
-        bytes_at(room, t.hi),
-    );
-    let next = text::put_number(out, at, verdict::answer_number(v));
-    match v {
-        verdict::Verdict::Yes => next,
-        verdict::Verdict::No(w) => put_spot(out, next, verdict::place_of(w)),
-    }
-}
-
-// The write into lent bytes, and all of them afterwards.
-fn write_into(room: &[u8], t: Tables, lent: &mut [u8], out: &mut [u8], at: usize) -> usize {
-    let w = planfile::write(
-        bytes_at(room, t.list),
-        bytes_at(room, t.lo),
-        bytes_at(room, t.hi),
-        lent,
-    );
-    let next = text::put_number(out, at, planfile::wrote_number(w));
-    let placed = put_spot(out, next, planfile::wrote_place(w));
-    put_bytes(out, placed, b" out=", lent)
-}
-
-fn reply_write(room: &[u8], t: Tables, n: usize, out: &mut [u8], at: usize) -> usize {
-    let mut space = [LENT; MOST_ROOM];
-    if MOST_ROOM < n {
-        return at;
-    }
-    write_into(room, t, &mut space[0..n], out, at)
-}
-
-fn build_into(room: &[u8], list: Span, lent: &mut [u8], out: &mut [u8], at: usize) -> usize {
-    let b = merge::build(bytes_at(room, list), lent);
-    let next = text::put_number(out, at, merge::built_number(b));
-    let placed = put_build_place(out, next, merge::built_place(b));
-    put_bytes(out, placed, b" out=", lent)
-}
-
-fn reply_build(room: &[u8], list: Span, n: usize, out: &mut [u8], at: usize) -> usize {
-    let mut space = [LENT; MOST_ROOM];
-    if MOST_ROOM < n {
-        return at;
-    }
-    build_into(room, list, &mut space[0..n], out, at)
-}
-
-fn reply_read(room: &[u8], s: Span, out: &mut [u8], at: usize) -> usize {
-    let plan = bytes_at(room, s);
-    let a = planfile::read(plan);
-    let next = text::put_number(out, at, planfile::read_number(a));
-    match a {
-        ReadAnswer::No(w) => put_spot(out, next, planfile::read_why_place(w)),
-        ReadAnswer::Plan(_) => {
-            let list = put_bytes(out, next, b" list=", planfile::list_of(plan));
-            let lo = put_bytes(out, list, b" lo=", planfile::low_of(plan));
-            put_bytes(out, lo, b" hi=", planfile::high_of(plan))
+impl Desk {
+    // Sends the answers that are gathered.
+    pub(crate) fn sent(self) -> Self {
+        let state = self.state;
+        Desk {
+            page: self.page.sent(),
+            state: state,
         }
     }
 }
 
-fn reply_open(room: &[u8], s: Span, first: usize, out: &mut [u8], at: usize) -> Replied {
-    let o = dispatch::open::open(bytes_at(room, s), (first % 65536) as u16);
+fn reply_list(page: Page, list: &[u8]) -> Page {
+    let a = call::check_list(list);
+    put_place(
+        page.number(joblist::answer_number(a)),
+        joblist::answer_place(a),
+    )
+}
+
+// The write into lent bytes, and all of them afterwards.
+fn write_into(page: Page, list: &[u8], lo: &[u8], hi: &[u8], lent: &mut [u8]) -> Page {
+    let w = call::write(list, lo, hi, lent);
+    let next = page.number(planfile::wrote_number(w));
+    put_bytes(put_spot(next, planfile::wrote_place(w)), b" out=", lent)
+}
+
+fn reply_write(page: Page, list: &[u8], lo: &[u8], hi: &[u8], n: usize) -> Page {
+    let mut space = [LENT; MOST_ROOM];
+    if MOST_ROOM < n {
+        return page;
+    }
+    write_into(page, list, lo, hi, &mut space[0..n])
+}
+
+fn build_into(page: Page, list: &[u8], lent: &mut [u8]) -> Page {
+    let b = call::build(list, lent);
+    let next = page.number(merge::built_number(b));
+    put_bytes(put_build_place(next, merge::built_place(b)), b" out=", lent)
+}
+
+fn reply_build(page: Page, list: &[u8], n: usize) -> Page {
+    let mut space = [LENT; MOST_ROOM];
+    if MOST_ROOM < n {
+        return page;
+    }
+    build_into(page, list, &mut space[0..n])
+}
+
+// The parts of a plan that can be read.
+fn put_plan(page: Page, plan: &[u8]) -> Page {
+    let list = put_bytes(page, b" list=", planfile::list_of(plan));
+    let lo = put_bytes(list, b" lo=", planfile::low_of(plan));
+    put_bytes(lo, b" hi=", planfile::high_of(plan))
+}
+
+fn reply_read(page: Page, plan: &[u8]) -> Page {
+    let a = call::read(plan);
+    let next = page.number(planfile::read_number(a));
+    match a {
+        ReadAnswer::No(w) => put_spot(next, planfile::read_why_place(w)),
+        ReadAnswer::Plan(_) => put_plan(next, plan),
+    }
+}
+
+fn reply_open(page: Page, plan: &[u8], first: usize) -> Desk {
+    let o = call::open(plan, first);
     let a = o.answer;
     let state = o.state;
-    let next = text::put_number(out, at, planfile::read_number(a));
-    let placed = put_spot(out, next, planfile::read_place(a));
-    Replied {
-        at: put_state(out, placed, state),
+    let next = put_spot(
+        page.number(planfile::read_number(a)),
+        planfile::read_place(a),
+    );
+    Desk {
+        page: put_state(next, state),
         state: state,
     }
 }
 
 // The order, or the place of a refusal.
-fn put_order(out: &mut [u8], at: usize, a: Answer) -> usize {
+fn put_order(page: Page, a: Answer) -> Page {
     match a {
-        Answer::Order(j) => put_value(out, at, b" order=", j as usize),
-        Answer::No(w) => put_place(out, at, dispatch::answer::place_of(w)),
+        Answer::Order(j) => page.put(b" order=").number(j as usize),
+        Answer::No(w) => put_place(page, dispatch::answer::place_of(w)),
     }
 }
 
-fn reply_step(s: State, tick: usize, ended: bool, out: &mut [u8], at: usize) -> Replied {
-    let r = s.step((tick % 65536) as u16, ended);
+fn reply_step(d: Desk, tick: usize, ended: usize) -> Desk {
+    let r = call::step(d.state, tick, ended);
     let a = r.answer;
     let state = r.state;
-    let next = text::put_number(out, at, dispatch::answer::answer_number(a));
-    let placed = put_order(out, next, a);
-    Replied {
-        at: put_state(out, placed, state),
+    let next = put_order(d.page.number(dispatch::answer::answer_number(a)), a);
+    Desk {
+        page: put_state(next, state),
         state: state,
     }
 }
 
-fn reply_poke(s: State, f: Field, i: usize, v: usize, out: &mut [u8], at: usize) -> Replied {
-    let state = poke(s, f, i, v);
-    let next = text::put(out, at, b"0");
-    Replied {
-        at: put_state(out, next, state),
+fn reply_poke(d: Desk, f: usize, i: usize, v: usize) -> Desk {
+    let state = poke(d.state, f, i, v);
+    Desk {
+        page: put_state(d.page.put(b"0"), state),
         state: state,
     }
 }
 
 // A request that leaves the state as it is.
-fn reply_bytes(room: &[u8], r: Request, out: &mut [u8], at: usize) -> usize {
+fn reply_bytes(page: Page, r: Request, list: &[u8], lo: &[u8], hi: &[u8]) -> Page {
     match r {
-        Request::List(list) => reply_list(room, list, out, at),
-        Request::Check(t) => reply_check(room, t, out, at),
-        Request::Write(t, n) => reply_write(room, t, n, out, at),
-        Request::Build(list, n) => reply_build(room, list, n, out, at),
-        Request::Read(plan) => reply_read(room, plan, out, at),
-        _ => text::put(out, at, b"?"),
+        Request::List => reply_list(page, list),
+        Request::Check => put_verdict(page, call::check(list, lo, hi)),
+        Request::Write(n) => reply_write(page, list, lo, hi, n),
+        Request::Build(n) => reply_build(page, list, n),
+        Request::Read => reply_read(page, list),
+        _ => page.put(b"?"),
     }
 }
 
-pub(crate) fn reply(room: &[u8], r: Request, s: State, out: &mut [u8], at: usize) -> Replied {
+// The answer to a request whose bytes are decoded.
+pub(crate) fn reply(d: Desk, r: Request, room: &[u8], b: Decoded) -> Desk {
+    let list = part(room, 0, b.list);
+    let lo = part(room, b.list, b.lo);
+    let hi = part(room, b.lo, b.hi);
+    let state = d.state;
     match r {
-        Request::Open(plan, first) => reply_open(room, plan, first, out, at),
-        Request::Step(tick, ended) => reply_step(s, tick, ended, out, at),
-        Request::Poke(f, i, v) => reply_poke(s, f, i, v, out, at),
-        _ => Replied {
-            at: reply_bytes(room, r, out, at),
-            state: s,
+        Request::Open(first) => reply_open(d.page, list, first),
+        Request::Step(tick, ended) => reply_step(d, tick, ended),
+        Request::Poke(f, i, v) => reply_poke(d, f, i, v),
+        _ => Desk {
+            page: reply_bytes(d.page, r, list, lo, hi).end(),
+            state: state,
         },
     }
 }

@@ -1,218 +1,102 @@
-// What a line asks: its word and its fields, read. Bytes are decoded into a room of their own, one after the other.
-use crate::fields::Fields;
+// What a line asks: its word and its fields, read.
+use crate::decoded::Decoded;
+use crate::decoded::NONE;
+use crate::fields::count;
 use crate::fields::field;
-use crate::fields::split;
-use crate::poke::Field;
+use crate::fields::place_in;
 use crate::poke::field_of;
 use crate::poke::kind_of;
-use check::same;
 use text::Decimal;
-use text::Unhexed;
 
-// No number is larger, and no more bytes are read or lent.
+// A longer line is not kept, and cannot be read.
+pub(crate) const MOST_LINE: usize = 400000;
+
+// No number is larger, and no more bytes are lent.
 const MOST_NUMBER: usize = 65535;
-
-const MOST_BYTES: usize = 65536;
 
 pub(crate) const MOST_ROOM: usize = 4096;
 
-// Where decoded bytes stand.
-pub(crate) struct Span {
-    pub from: usize,
-    pub to: usize,
-}
-
-// A list with two tables.
-pub(crate) struct Tables {
-    pub list: Span,
-    pub lo: Span,
-    pub hi: Span,
-}
-
+// A request with its numbers; its bytes are decoded.
 pub(crate) enum Request {
-    List(Span),
-    Check(Tables),
-    Write(Tables, usize),
-    Build(Span, usize),
-    Read(Span),
-    Open(Span, usize),
-    Step(usize, bool),
-    Poke(Field, usize, usize),
+    List,
+    Check,
+    Write(usize),
+    Build(usize),
+    Read,
+    Open(usize),
+    Step(usize, usize),
+    Poke(usize, usize, usize),
     Unreadable,
 }
 
-enum Bytes {
-    At(Span),
-    Not,
-}
-
-enum Three {
-    At(Tables),
-    Not,
-}
-
-// The bytes of field k, from `at` on.
-fn bytes_of(line: &[u8], f: Fields, k: usize, room: &mut [u8], at: usize) -> Bytes {
-    let s = field(line, f, k);
-    if same(s, b"-") {
-        return Bytes::At(Span { from: at, to: at });
-    }
-    if s.len() == 0 {
-        return Bytes::Not;
-    }
-    if 2 * MOST_BYTES < s.len() {
-        return Bytes::Not;
-    }
-    match text::put_unhex(room, at, s) {
-        Unhexed::To(to) => Bytes::At(Span { from: at, to: to }),
-        Unhexed::Not => Bytes::Not,
+// The number in field k.
+fn number(line: &[u8], k: usize, most: usize) -> usize {
+    match text::number(field(line, k), most) {
+        Decimal::Is(n) => n,
+        Decimal::Not => NONE,
     }
 }
 
-// The bytes of fields 1 to 3.
-fn tables_of(line: &[u8], f: Fields, room: &mut [u8]) -> Three {
-    let Bytes::At(list) = bytes_of(line, f, 1, room, 0) else {
-        return Three::Not;
-    };
-    let Bytes::At(lo) = bytes_of(line, f, 2, room, list.to) else {
-        return Three::Not;
-    };
-    let Bytes::At(hi) = bytes_of(line, f, 3, room, lo.to) else {
-        return Three::Not;
-    };
-    Three::At(Tables {
-        list: list,
-        lo: lo,
-        hi: hi,
-    })
-}
-
-fn read_list(line: &[u8], f: Fields, room: &mut [u8]) -> Request {
-    if f.count != 2 {
+// The request, where the line is not too long and has so many fields, and an end and a number are there.
+fn asked(r: Request, line: &[u8], fields: usize, end: usize, n: usize) -> Request {
+    if MOST_LINE < line.len() {
         return Request::Unreadable;
     }
-    let Bytes::At(list) = bytes_of(line, f, 1, room, 0) else {
-        return Request::Unreadable;
-    };
-    Request::List(list)
-}
-
-fn read_check(line: &[u8], f: Fields, room: &mut [u8]) -> Request {
-    if f.count != 4 {
+    if count(line) != fields {
         return Request::Unreadable;
     }
-    let Three::At(tables) = tables_of(line, f, room) else {
-        return Request::Unreadable;
-    };
-    Request::Check(tables)
-}
-
-fn read_write(line: &[u8], f: Fields, room: &mut [u8]) -> Request {
-    if f.count != 5 {
+    if end == NONE {
         return Request::Unreadable;
     }
-    let Three::At(tables) = tables_of(line, f, room) else {
-        return Request::Unreadable;
-    };
-    let Decimal::Is(lent) = text::number(field(line, f, 4), MOST_ROOM) else {
-        return Request::Unreadable;
-    };
-    Request::Write(tables, lent)
-}
-
-fn read_build(line: &[u8], f: Fields, room: &mut [u8]) -> Request {
-    if f.count != 3 {
+    if n == NONE {
         return Request::Unreadable;
     }
-    let Bytes::At(list) = bytes_of(line, f, 1, room, 0) else {
-        return Request::Unreadable;
-    };
-    let Decimal::Is(lent) = text::number(field(line, f, 2), MOST_ROOM) else {
-        return Request::Unreadable;
-    };
-    Request::Build(list, lent)
+    r
 }
 
-fn read_read(line: &[u8], f: Fields, room: &mut [u8]) -> Request {
-    if f.count != 2 {
-        return Request::Unreadable;
-    }
-    let Bytes::At(plan) = bytes_of(line, f, 1, room, 0) else {
-        return Request::Unreadable;
-    };
-    Request::Read(plan)
+fn read_write(line: &[u8], d: Decoded) -> Request {
+    let lent = number(line, 4, MOST_ROOM);
+    asked(Request::Write(lent), line, 5, d.hi, lent)
 }
 
-fn read_open(line: &[u8], f: Fields, room: &mut [u8]) -> Request {
-    if f.count != 3 {
-        return Request::Unreadable;
-    }
-    let Bytes::At(plan) = bytes_of(line, f, 1, room, 0) else {
-        return Request::Unreadable;
-    };
-    let Decimal::Is(first) = text::number(field(line, f, 2), MOST_NUMBER) else {
-        return Request::Unreadable;
-    };
-    Request::Open(plan, first)
+fn read_build(line: &[u8], d: Decoded) -> Request {
+    let lent = number(line, 2, MOST_ROOM);
+    asked(Request::Build(lent), line, 3, d.list, lent)
 }
 
-fn read_step(line: &[u8], f: Fields) -> Request {
-    if f.count != 3 {
-        return Request::Unreadable;
-    }
-    let Decimal::Is(tick) = text::number(field(line, f, 1), MOST_NUMBER) else {
-        return Request::Unreadable;
-    };
-    let Decimal::Is(ended) = text::number(field(line, f, 2), 1) else {
-        return Request::Unreadable;
-    };
-    Request::Step(tick, ended == 1)
+fn read_open(line: &[u8], d: Decoded) -> Request {
+    let first = number(line, 2, MOST_NUMBER);
+    asked(Request::Open(first), line, 3, d.list, first)
 }
 
-fn read_poke(line: &[u8], f: Fields) -> Request {
-    if f.count != 4 {
-        return Request::Unreadable;
-    }
-    let name = field_of(field(line, f, 1));
-    let kind = kind_of(name);
-    let Decimal::Is(i) = text::number(field(line, f, 2), MOST_NUMBER) else {
-        return Request::Unreadable;
-    };
+fn read_step(line: &[u8]) -> Request {
+    let tick = number(line, 1, MOST_NUMBER);
+    let ended = number(line, 2, 1);
+    asked(Request::Step(tick, ended), line, 3, tick, ended)
+}
+
+fn read_poke(line: &[u8]) -> Request {
+    let f = field_of(field(line, 1));
+    let kind = kind_of(f);
+    let i = number(line, 2, MOST_NUMBER);
+    let v = number(line, 3, kind.most);
     if kind.places <= i {
         return Request::Unreadable;
     }
-    let Decimal::Is(v) = text::number(field(line, f, 3), kind.most) else {
-        return Request::Unreadable;
-    };
-    Request::Poke(name, i, v)
+    asked(Request::Poke(f, i, v), line, 4, i, v)
 }
 
-pub(crate) fn request_of(line: &[u8], room: &mut [u8]) -> Request {
-    let f = split(line);
-    let word = field(line, f, 0);
-    if same(word, b"list") {
-        return read_list(line, f, room);
+pub(crate) fn request_of(line: &[u8], d: Decoded) -> Request {
+    let words = b"list check write build read open step poke";
+    match place_in(words, field(line, 0)) {
+        0 => asked(Request::List, line, 2, d.list, 0),
+        1 => asked(Request::Check, line, 4, d.hi, 0),
+        2 => read_write(line, d),
+        3 => read_build(line, d),
+        4 => asked(Request::Read, line, 2, d.list, 0),
+        5 => read_open(line, d),
+        6 => read_step(line),
+        7 => read_poke(line),
+        _ => Request::Unreadable,
     }
-    if same(word, b"check") {
-        return read_check(line, f, room);
-    }
-    if same(word, b"write") {
-        return read_write(line, f, room);
-    }
-    if same(word, b"build") {
-        return read_build(line, f, room);
-    }
-    if same(word, b"read") {
-        return read_read(line, f, room);
-    }
-    if same(word, b"open") {
-        return read_open(line, f, room);
-    }
-    if same(word, b"step") {
-        return read_step(line, f);
-    }
-    if same(word, b"poke") {
-        return read_poke(line, f);
-    }
-    Request::Unreadable
 }

@@ -1,82 +1,80 @@
 // The parts of an answer line: a number, and the places that it has.
 use joblist::Place;
 use merge::BuildPlace;
+use page::Page;
 use verdict::Fault;
 use verdict::Spot;
 use verdict::Verdict;
 
-// A name and its number.
-pub(crate) fn put_value(out: &mut [u8], at: usize, name: &[u8], n: usize) -> usize {
-    let next = text::put(out, at, name);
-    text::put_number(out, next, n)
+// A name and its bytes, `-` for none.
+pub(crate) fn put_bytes(page: Page, name: &[u8], s: &[u8]) -> Page {
+    if s.len() == 0 {
+        return page.put(name).put(b"-");
+    }
+    page.put(name).hex(s)
 }
 
-// A name and its bytes, `-` for none.
-pub(crate) fn put_bytes(out: &mut [u8], at: usize, name: &[u8], s: &[u8]) -> usize {
-    let next = text::put(out, at, name);
-    if s.len() == 0 {
-        return text::put(out, next, b"-");
-    }
-    text::put_hex(out, next, s)
+fn put_slot(page: Page, t: usize) -> Page {
+    page.put(b" slot=").number(t)
+}
+
+fn put_job(page: Page, j: usize) -> Page {
+    page.put(b" job=").number(j)
 }
 
 // The job or the edge of a refused list.
-pub(crate) fn put_place(out: &mut [u8], at: usize, p: Place) -> usize {
+pub(crate) fn put_place(page: Page, p: Place) -> Page {
     match p {
-        Place::Nowhere => at,
-        Place::AtJob(j) => put_value(out, at, b" job=", j),
-        Place::AtEdge(e) => put_value(out, at, b" edge=", e),
+        Place::Nowhere => page,
+        Place::AtJob(j) => put_job(page, j),
+        Place::AtEdge(e) => page.put(b" edge=").number(e),
     }
+}
+
+fn put_slot_job(page: Page, t: usize, j: usize) -> Page {
+    put_job(put_slot(page, t), j)
+}
+
+fn put_switch(page: Page, x: usize) -> Page {
+    page.put(b" switch=").number(x)
 }
 
 // Slot, job and switch of a fault; a predecessor where it has one.
-pub(crate) fn put_fault(out: &mut [u8], at: usize, f: Fault) -> usize {
+fn put_fault(page: Page, f: Fault) -> Page {
     match f {
-        Fault::Late(t, j, x) => {
-            let job = put_slot_job(out, at, t, j);
-            put_value(out, job, b" switch=", x)
-        }
-        Fault::Early(t, j, x) => {
-            let job = put_slot_job(out, at, t, j);
-            put_value(out, job, b" switch=", x)
-        }
+        Fault::Late(t, j, x) => put_switch(put_slot_job(page, t, j), x),
+        Fault::Early(t, j, x) => put_switch(put_slot_job(page, t, j), x),
         Fault::Before(t, j, p, x) => {
-            let job = put_slot_job(out, at, t, j);
-            let pred = put_value(out, job, b" pred=", p);
-            put_value(out, pred, b" switch=", x)
+            let job = put_slot_job(page, t, j);
+            put_switch(job.put(b" pred=").number(p), x)
         }
     }
-}
-
-pub(crate) fn put_slot_job(out: &mut [u8], at: usize, t: usize, j: usize) -> usize {
-    let slot = put_value(out, at, b" slot=", t);
-    put_value(out, slot, b" job=", j)
 }
 
 // The place of what the check, a plan or a write is refused for.
-pub(crate) fn put_spot(out: &mut [u8], at: usize, s: Spot) -> usize {
+pub(crate) fn put_spot(page: Page, s: Spot) -> Page {
     match s {
-        Spot::InList(p) => put_place(out, at, p),
-        Spot::AtSlot(t) => put_value(out, at, b" slot=", t),
-        Spot::AtFault(f) => put_fault(out, at, f),
+        Spot::InList(p) => put_place(page, p),
+        Spot::AtSlot(t) => put_slot(page, t),
+        Spot::AtFault(f) => put_fault(page, f),
     }
 }
 
-// The fault of a built pair: its number, and its place.
-fn put_rejected(out: &mut [u8], at: usize, v: Verdict) -> usize {
-    let next = put_value(out, at, b" fault=", verdict::answer_number(v));
+// The check's answer: its number, and its place.
+pub(crate) fn put_verdict(page: Page, v: Verdict) -> Page {
+    let next = page.number(verdict::answer_number(v));
     match v {
         Verdict::Yes => next,
-        Verdict::No(w) => put_spot(out, next, verdict::place_of(w)),
+        Verdict::No(w) => put_spot(next, verdict::place_of(w)),
     }
 }
 
 // The place of what a build is refused for.
-pub(crate) fn put_build_place(out: &mut [u8], at: usize, p: BuildPlace) -> usize {
+pub(crate) fn put_build_place(page: Page, p: BuildPlace) -> Page {
     match p {
-        BuildPlace::InList(p) => put_place(out, at, p),
-        BuildPlace::AtJob(t, j) => put_slot_job(out, at, t, j),
-        BuildPlace::AtSlot(t) => put_value(out, at, b" slot=", t),
-        BuildPlace::Answer(v) => put_rejected(out, at, v),
+        BuildPlace::InList(p) => put_place(page, p),
+        BuildPlace::AtJob(t, j) => put_slot_job(page, t, j),
+        BuildPlace::AtSlot(t) => put_slot(page, t),
+        BuildPlace::Answer(v) => put_verdict(page.put(b" fault="), v),
     }
 }

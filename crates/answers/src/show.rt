@@ -1,8 +1,7 @@
 // The dispatcher's state as text, for the jobs below n.
-ghost use Prim.Native.Nat.{_≤_};
-use crate::say::put_value;
 use dispatch::state::State;
 use joblist::MOST_JOBS;
+use page::Page;
 
 // A mark is shown as 0 or 1.
 fn mark(x: u8) -> usize {
@@ -16,63 +15,75 @@ fn wide(x: u16) -> usize {
     x as usize
 }
 
+fn count_at(counts: [u16; MOST_JOBS], j: usize) -> usize {
+    if j < MOST_JOBS {
+        return wide(counts[j]);
+    }
+    0
+}
+
+fn mark_at(marks: [u8; MOST_JOBS], j: usize) -> usize {
+    if j < MOST_JOBS {
+        return mark(marks[j]);
+    }
+    0
+}
+
 // Number j of a row: a comma before each but the first.
-fn put_item(out: &mut [u8], at: usize, j: usize, x: usize) -> usize {
+fn put_item(page: Page, j: usize, x: usize) -> Page {
     if j == 0 {
-        return text::put_number(out, at, x);
+        return page.number(x);
     }
-    put_value(out, at, b",", x)
+    page.put(b",").number(x)
 }
 
-fn put_counts(out: &mut [u8], at: usize, counts: &[u16; MOST_JOBS], n: usize) -> usize
-    requires { ⌜ n ≤ 64 ⌝ }
-{
-    let mut next = at;
+fn put_counts(start: Page, counts: [u16; MOST_JOBS], n: usize) -> Page {
+    let mut page = start;
     for j in 0..n {
-        next = put_item(out, next, j, wide(counts[j]));
+        page = put_item(page, j, count_at(counts, j));
     }
-    next
+    page
 }
 
-fn put_marks(out: &mut [u8], at: usize, marks: &[u8; MOST_JOBS], n: usize) -> usize
-    requires { ⌜ n ≤ 64 ⌝ }
-{
-    let mut next = at;
+fn put_marks(start: Page, marks: [u8; MOST_JOBS], n: usize) -> Page {
+    let mut page = start;
     for j in 0..n {
-        next = put_item(out, next, j, mark(marks[j]));
+        page = put_item(page, j, mark_at(marks, j));
     }
-    next
+    page
 }
 
 // The rows of the first n jobs.
-fn put_rows(out: &mut [u8], at: usize, s: State, n: usize) -> usize
-    requires { ⌜ n ≤ 64 ⌝ }
-{
-    let units = text::put(out, at, b" units=");
-    let counted = put_counts(out, units, &s.units, n);
-    let done = text::put(out, counted, b" done=");
-    let ended = put_marks(out, done, &s.done, n);
-    let cut = text::put(out, ended, b" cut=");
-    put_marks(out, cut, &s.cut, n)
+fn put_rows(page: Page, s: State, n: usize) -> Page {
+    let units = s.units;
+    let done = s.done;
+    let cut = s.cut;
+    let counted = put_counts(page.put(b" units="), units, n);
+    let ended = put_marks(counted.put(b" done="), done, n);
+    put_marks(ended.put(b" cut="), cut, n)
 }
 
-fn put_values(out: &mut [u8], at: usize, s: State) -> usize {
-    let slot = put_value(out, at, b" | slot=", wide(s.slot));
-    let tick = put_value(out, slot, b" tick=", wide(s.last));
-    let ordered = put_value(out, tick, b" ordered=", s.ordered as usize);
-    let high = put_value(out, ordered, b" high=", mark(s.high));
-    put_value(out, high, b" halted=", mark(s.halted))
+fn put_values(page: Page, s: State) -> Page {
+    let ticked = page.put(b" | slot=")
+        .number(wide(s.slot))
+        .put(b" tick=")
+        .number(wide(s.last));
+    ticked
+        .put(b" ordered=")
+        .number(s.ordered as usize)
+        .put(b" high=")
+        .number(mark(s.high))
+        .put(b" halted=")
+        .number(mark(s.halted))
 }
 
-// A state without jobs, or with too many, has nothing to show.
-pub(crate) fn put_state(out: &mut [u8], at: usize, s: State) -> usize {
+// The state, to the end of its line. One without jobs, or with too many, has nothing to show.
+pub(crate) fn put_state(page: Page, s: State) -> Page {
     let n = wide(s.plan.n);
-    if n < 1 {
-        return text::put(out, at, b" | -");
+    if 0 < n {
+        if n <= MOST_JOBS {
+            return put_rows(put_values(page, s), s, n).end();
+        }
     }
-    if MOST_JOBS < n {
-        return text::put(out, at, b" | -");
-    }
-    let next = put_values(out, at, s);
-    put_rows(out, next, s, n)
+    page.line(b" | -")
 }

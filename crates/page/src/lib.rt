@@ -4,6 +4,7 @@
 // back until something follows them, so that no line ends in one.
 mod number;
 
+ghost use Prim.Native.Nat.{_<_};
 use libc::STDERR_FILENO;
 use libc::STDOUT_FILENO;
 pub use number::after;
@@ -14,6 +15,9 @@ use text::part;
 
 // The bytes of a page.
 const ROOM: usize = 1024;
+
+// How many bytes are spelled in hex at a time.
+const HEX_PIECE: usize = 256;
 
 // What is gathered; how many blanks are held back after it; where it goes, and whether some of it did not get there.
 pub struct Page {
@@ -54,7 +58,7 @@ impl Page {
     }
 
     // Sends what is gathered.
-    fn sent(self) -> Self {
+    pub fn sent(self) -> Self {
         let bytes = self.bytes;
         let mut page = self.passed(part(&bytes, 0, self.size));
         page.size = 0;
@@ -115,6 +119,25 @@ impl Page {
     // Puts the decimal digits of a number.
     pub fn number(self, n: usize) -> Self {
         self.number_left(n, 0)
+    }
+
+    // Puts the hex digits of bytes, two a byte.
+    pub fn hex(self, s: &[u8]) -> Self {
+        let mut page = self;
+        let mut from: usize = 0;
+        while from < s.len() {
+            let to = piece_end(s.len(), from);
+            page = page.hex_piece(part(s, from, to));
+            from = to;
+        }
+        page
+    }
+
+    // The hex digits of at most HEX_PIECE bytes.
+    fn hex_piece(self, s: &[u8]) -> Self {
+        let mut digits = [0u8; 2 * HEX_PIECE];
+        let k = hex_in(&mut digits, s);
+        self.put(part(&digits, 0, k))
     }
 
     // Holds back k blanks.
@@ -178,6 +201,21 @@ fn put_in(bytes: &mut [u8], at: usize, s: &[u8]) -> usize {
 
 fn number_in(bytes: &mut [u8], n: usize) -> usize {
     text::put_number(bytes, 0, n)
+}
+
+fn hex_in(bytes: &mut [u8], s: &[u8]) -> usize {
+    text::put_hex(bytes, 0, s)
+}
+
+// The end of the piece of hex that starts at `from`.
+fn piece_end(size: usize, from: usize) -> usize
+    requires { ⌜ from < size ⌝ }
+    ensures { λ r. ⌜ from < r ⌝ }
+{
+    if size - from < HEX_PIECE {
+        return size;
+    }
+    from + HEX_PIECE
 }
 
 // How many digits a number has.

@@ -1,30 +1,24 @@
--- `put_marks` is safe and ends.
+-- `put_marks` is safe and ends: the measure is what is left of its turns.
 -- Assumes nothing.
-use borrow.Author.Needs.{needs}
 use native.Mathlib.Omega.{arith}
-use Prim.Native.Nat.{_≤_, _-_}
-use mathlib.Core.Path.{_≡_, refl}
-use lib.ListN.{length}
+use Prim.Native.Nat.{_-_}
 use Rattle.answers.proofs.show.put_marks.Statement.{statement}
 use Rattle.answers.proofs.show.put_marks.Tie as tie
 
 abbrev Inv-loop : tie.InvT-loop
-Inv-loop out₀ at marks n next₀ j₀ out next j = (j ≤ n) × (length out ≡ length out₀)
+Inv-loop marks n page₀ j₀ page j = Unit {0}
 
 abbrev μ-loop : tie.MeasureT-loop
-μ-loop out₀ at marks n next₀ j₀ out next j = n - j
+μ-loop marks n page₀ j₀ page j = n - j
 
 loop-holds : tie.Need-loop-holds Inv-loop μ-loop
-loop-holds c = (omega arith, refl)
+loop-holds c = tt
 
-element-copy-out-mark : tie.Need-element-copy-out-mark Inv-loop μ-loop
-element-copy-out-mark c = omega arith
-
-mark-requires : tie.Need-mark-requires Inv-loop μ-loop
-mark-requires c κs = search needs
+mark-at-requires : tie.Need-mark-at-requires Inv-loop μ-loop
+mark-at-requires c κs = tt
 
 put-item-requires : tie.Need-put-item-requires Inv-loop μ-loop
-put-item-requires c κs = search needs
+put-item-requires c κs = tt
 
 add-j : tie.Need-add-j Inv-loop μ-loop
 add-j c = omega arith
@@ -33,13 +27,10 @@ loop-less : tie.Need-loop-less Inv-loop μ-loop
 loop-less c = omega arith
 
 loop-again : tie.Need-loop-again Inv-loop μ-loop
-loop-again c = (omega arith, omega (arith, c .before .before .put-item .kept .0))
-
-same-length : tie.Need-same-length Inv-loop μ-loop
-same-length c = c .before .loop .inv .1
+loop-again c = tt
 
 returns : tie.Need-returns Inv-loop μ-loop
-returns c = search needs
+returns c = tt
 
 pub put-marks-spec : {M : Type 1} → statement M
 put-marks-spec =
@@ -48,11 +39,9 @@ put-marks-spec =
     Inv-loop
     μ-loop
     loop-holds
-    element-copy-out-mark
-    mark-requires
+    mark-at-requires
     put-item-requires
     add-j
     loop-less
     loop-again
-    same-length
     returns)
