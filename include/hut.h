@@ -7,7 +7,7 @@
  *
  * No call allocates, keeps anything between calls, reads a clock or writes a file. Each call ends, and
  * answers on every input: any bytes, any lengths, any ticks, any end marks, any bytes as a state. Of C's
- * library it needs memcpy and memset. Build, read, open and step took at most 34 KB of stack (measured, not proved).
+ * library it needs memcpy and memset.
  *
  * What the caller owes:
  * - a pointer is never NULL, also where its length is 0, and that many bytes behind it may be read;
@@ -33,6 +33,9 @@ extern "C" {
 /* The bytes of a list of n jobs and m edges, and the bytes of the longest plan. */
 #define HUT_LIST_BYTES(n, m) (8 + 10 * (size_t)(n) + 2 * (size_t)(m))
 #define HUT_MOST_PLAN_BYTES 3216
+
+/* The stack to leave for a call. Not proved: tests/hut/stack.c measures each call at the largest size. */
+#define HUT_STACK_BYTES 40960
 
 /* Where an answer of no stands. Each field is HUT_ABSENT where the number below does not name it. */
 struct hut_place {

@@ -277,13 +277,10 @@ fn job_wrong(line: &[u8], job: Job) -> Wrong {
 
 // One line, where it is a job's.
 fn job_line(jobs: Jobs, line: &[u8], number: usize) -> Jobs {
-    let name = word(line, 0);
-    if name.len() == 0 {
-        return jobs;
-    }
     if same(word(line, 1), b"before") {
         return jobs;
     }
+    let name = word(line, 0);
     let job = job_of(line);
     let wrong = job_wrong(line, job);
     let Wrong::Nothing = wrong else {
@@ -341,7 +338,7 @@ fn one_line(jobs: Jobs, line: &[u8], number: usize, of_edges: bool) -> Jobs {
     job_line(jobs, line, number)
 }
 
-// Every line of the text, to the first mistake.
+// Every line of the text that says something, to the first mistake.
 fn each_line(read: Jobs, s: &[u8], of_edges: bool) -> Jobs {
     let mut jobs = read;
     let mut at = 0;
@@ -350,7 +347,10 @@ fn each_line(read: Jobs, s: &[u8], of_edges: bool) -> Jobs {
             break;
         }
         let to = find(s, at, b'\n');
-        jobs = one_line(jobs, bare(part(s, at, to)), i + 1, of_edges);
+        let line = bare(part(s, at, to));
+        if word(line, 0).len() != 0 {
+            jobs = one_line(jobs, line, i + 1, of_edges);
+        }
         if jobs.line != 0 {
             break;
         }

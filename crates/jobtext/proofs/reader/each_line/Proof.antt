@@ -23,6 +23,9 @@ part-requires c κs = tt
 bare-requires : tie.Need-bare-requires Inv-loop μ-loop
 bare-requires c κs = tt
 
+word-requires : tie.Need-word-requires Inv-loop μ-loop
+word-requires c κs = tt
+
 add-one-line : tie.Need-add-one-line Inv-loop μ-loop
 add-one-line c = omega arith
 
@@ -60,6 +63,7 @@ each-line-spec =
     find-requires
     part-requires
     bare-requires
+    word-requires
     add-one-line
     one-line-requires
     after-requires

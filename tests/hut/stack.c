@@ -1,0 +1,108 @@
+/* How much stack each call takes on the longest frame with the most jobs: each runs on a stack of its own that
+ * was filled with one byte, and the part where that byte is gone was used. The last line counts. */
+#define _POSIX_C_SOURCE 200809L
+#include "hut.h"
+
+#include <pthread.h>
+#include <stdio.h>
+#include <stdlib.h>
+#include <string.h>
+
+enum { ROOM = 1 << 20, FILL = 0xA5, JOBS = 64, SLOTS = 1024, MOST_EDGES = 256 };
+
+static uint8_t list[HUT_LIST_BYTES(JOBS, MOST_EDGES)], plan[HUT_MOST_PLAN_BYTES], out[HUT_MOST_PLAN_BYTES];
+static size_t list_bytes, plan_bytes;
+static struct hut_state state;
+
+static struct hut_answer build(void) { return hut_build(list, list_bytes, out, sizeof out); }
+static struct hut_answer check(void)
+{
+    const uint8_t *lo = plan + list_bytes;
+    return hut_check(list, list_bytes, lo, SLOTS, lo + SLOTS, SLOTS);
+}
+static struct hut_answer read_plan(void) { return hut_read(plan, plan_bytes).answer; }
+static struct hut_answer write_plan(void)
+{
+    const uint8_t *lo = plan + list_bytes;
+    return hut_write(list, list_bytes, lo, SLOTS, lo + SLOTS, SLOTS, out, sizeof out);
+}
+static struct hut_answer open_plan(void)
+{
+    struct hut_running r = hut_open(plan, plan_bytes, 0);
+    state = r.state;
+    return r.answer;
+}
+static struct hut_answer step(void) { return hut_step(&state, 0, 0); }
+
+static const struct {
+    const char *name;
+    struct hut_answer (*call)(void);
+} calls[] = {{"build", build}, {"check", check}, {"read", read_plan}, {"write", write_plan}, {"open", open_plan}, {"step", step}};
+
+/* 64 high jobs with all the time there is, each before the next four: 246 edges. */
+static void put_list(void)
+{
+    uint8_t *edge = list + HUT_LIST_BYTES(JOBS, 0);
+    size_t edges = 0;
+    list[0] = JOBS;
+    list[5] = SLOTS >> 8;
+    for (size_t j = 0; j < JOBS; j++) {
+        uint8_t *job = list + HUT_LIST_BYTES(j, 0);
+        job[3] = SLOTS >> 8;
+        job[4] = 1;
+        job[6] = 2;
+        job[8] = 1;
+        for (size_t k = j + 1; k <= j + 4 && k < JOBS; k++, edges++) {
+            *edge++ = (uint8_t)j;
+            *edge++ = (uint8_t)k;
+        }
+    }
+    list[2] = (uint8_t)edges;
+    list_bytes = HUT_LIST_BYTES(JOBS, edges);
+}
+
+static void *run(void *which)
+{
+    size_t *k = which;
+    *k = calls[*k].call().number;
+    return NULL;
+}
+
+/* The bytes of stack that a call takes, with what the thread itself takes; all of them where it does not answer 0. */
+static size_t taken(size_t which)
+{
+    uint8_t *stack = aligned_alloc(4096, ROOM);
+    pthread_attr_t on;
+    pthread_t thread;
+    size_t free_bytes = 0;
+    memset(stack, FILL, ROOM);
+    pthread_attr_init(&on);
+    pthread_attr_setstack(&on, stack, ROOM);
+    if (pthread_create(&thread, &on, run, &which) != 0 || pthread_join(thread, NULL) != 0 || which != 0) {
+        return ROOM;
+    }
+    while (free_bytes < ROOM && stack[free_bytes] == FILL) {
+        free_bytes++;
+    }
+    free(stack);
+    return ROOM - free_bytes;
+}
+
+int main(void)
+{
+    int passed = 0, failed = 0;
+    put_list();
+    plan_bytes = hut_build(list, list_bytes, plan, sizeof plan).length;
+    for (size_t k = 0; k < sizeof calls / sizeof *calls; k++) {
+        const size_t bytes = taken(k);
+        if (bytes <= HUT_STACK_BYTES) {
+            passed++;
+        } else {
+            failed++;
+            printf("FAILED: ");
+        }
+        printf("hut_%s takes %zu bytes of stack\n", calls[k].name, bytes);
+    }
+    printf("%d passed, %d failed\n", passed, failed);
+    return failed != 0;
+}
