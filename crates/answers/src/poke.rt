@@ -1,11 +1,51 @@
-// One field of the dispatcher's state: set to any value that it can hold. Fields are numbered in the order of their names,
-// which goes by kind.
+// One field of the dispatcher's state: set to any value that it can hold.
 use crate::fields::place_in;
 use dispatch::plan::Plan;
 use dispatch::state::State;
 use joblist::MOST_EDGES;
 use joblist::MOST_JOBS;
 use joblist::MOST_SLOTS;
+
+// The fields, numbered in the order of their names below: words, bytes, then what has a place for each job, edge and slot.
+const SLOT: usize = 0;
+
+const TICK: usize = 1;
+
+const LENGTH: usize = 2;
+
+const JOBS: usize = 3;
+
+const EDGES: usize = 4;
+
+const ORDERED: usize = 5;
+
+const HIGH: usize = 6;
+
+const HALTED: usize = 7;
+
+const UNITS: usize = 8;
+
+const ARRIVAL: usize = 9;
+
+const DEADLINE: usize = 10;
+
+const CLO: usize = 11;
+
+const CHI: usize = 12;
+
+const DONE: usize = 13;
+
+const CUT: usize = 14;
+
+const LEVEL: usize = 15;
+
+const FROM: usize = 16;
+
+const TO: usize = 17;
+
+const LO: usize = 18;
+
+const HI: usize = 19;
 
 // How many places a field has, and the largest value of one.
 pub(crate) struct Kind {
@@ -38,12 +78,12 @@ fn bytes(places: usize) -> Kind {
 // What is no field has no place.
 pub(crate) fn kind_of(f: usize) -> Kind {
     match f {
-        0..=4 => words(1),
-        5..=7 => bytes(1),
-        8..=12 => words(MOST_JOBS),
-        13..=15 => bytes(MOST_JOBS),
-        16..=17 => bytes(MOST_EDGES),
-        18..=19 => bytes(MOST_SLOTS),
+        SLOT..=EDGES => words(1),
+        ORDERED..=HALTED => bytes(1),
+        UNITS..=CHI => words(MOST_JOBS),
+        DONE..=LEVEL => bytes(MOST_JOBS),
+        FROM..=TO => bytes(MOST_EDGES),
+        LO..=HI => bytes(MOST_SLOTS),
         _ => words(0),
     }
 }
@@ -52,10 +92,10 @@ pub(crate) fn kind_of(f: usize) -> Kind {
 fn poke_job(mut plan: Plan, f: usize, i: usize, w: u16, b: u8) -> Plan {
     if i < MOST_JOBS {
         match f {
-            9 => plan.arrival[i] = w,
-            10 => plan.deadline[i] = w,
-            11 => plan.clo[i] = w,
-            12 => plan.chi[i] = w,
+            ARRIVAL => plan.arrival[i] = w,
+            DEADLINE => plan.deadline[i] = w,
+            CLO => plan.clo[i] = w,
+            CHI => plan.chi[i] = w,
             _ => plan.level[i] = b,
         }
     }
@@ -66,7 +106,7 @@ fn poke_job(mut plan: Plan, f: usize, i: usize, w: u16, b: u8) -> Plan {
 fn poke_edge(mut plan: Plan, f: usize, i: usize, b: u8) -> Plan {
     if i < MOST_EDGES {
         match f {
-            16 => plan.from[i] = b,
+            FROM => plan.from[i] = b,
             _ => plan.to[i] = b,
         }
     }
@@ -77,7 +117,7 @@ fn poke_edge(mut plan: Plan, f: usize, i: usize, b: u8) -> Plan {
 fn poke_table(mut plan: Plan, f: usize, i: usize, b: u8) -> Plan {
     if i < MOST_SLOTS {
         match f {
-            18 => plan.lo[i] = b,
+            LO => plan.lo[i] = b,
             _ => plan.hi[i] = b,
         }
     }
@@ -86,11 +126,11 @@ fn poke_table(mut plan: Plan, f: usize, i: usize, b: u8) -> Plan {
 
 fn poke_plan(mut plan: Plan, f: usize, i: usize, w: u16, b: u8) -> Plan {
     match f {
-        2 => plan.len = w,
-        3 => plan.n = w,
-        4 => plan.m = w,
-        16 | 17 => plan = poke_edge(plan, f, i, b),
-        18 | 19 => plan = poke_table(plan, f, i, b),
+        LENGTH => plan.len = w,
+        JOBS => plan.n = w,
+        EDGES => plan.m = w,
+        FROM | TO => plan = poke_edge(plan, f, i, b),
+        LO | HI => plan = poke_table(plan, f, i, b),
         _ => plan = poke_job(plan, f, i, w, b),
     }
     plan
@@ -100,8 +140,8 @@ fn poke_plan(mut plan: Plan, f: usize, i: usize, w: u16, b: u8) -> Plan {
 fn poke_row(mut s: State, f: usize, i: usize, w: u16, b: u8) -> State {
     if i < MOST_JOBS {
         match f {
-            8 => s.units[i] = w,
-            13 => s.done[i] = b,
+            UNITS => s.units[i] = w,
+            DONE => s.done[i] = b,
             _ => s.cut[i] = b,
         }
     }
@@ -113,12 +153,12 @@ pub(crate) fn poke(mut s: State, f: usize, i: usize, v: usize) -> State {
     let w = (v % 65536) as u16;
     let b = (v % 256) as u8;
     match f {
-        0 => s.slot = w,
-        1 => s.last = w,
-        5 => s.ordered = b,
-        6 => s.high = b,
-        7 => s.halted = b,
-        8 | 13 | 14 => s = poke_row(s, f, i, w, b),
+        SLOT => s.slot = w,
+        TICK => s.last = w,
+        ORDERED => s.ordered = b,
+        HIGH => s.high = b,
+        HALTED => s.halted = b,
+        UNITS | DONE | CUT => s = poke_row(s, f, i, w, b),
         _ => {
             let plan = poke_plan(s.plan, f, i, w, b);
             s.plan = plan;
