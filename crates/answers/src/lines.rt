@@ -1,15 +1,15 @@
 // Lines in, lines out: what is read stays in the input until its line ends.
 use crate::call;
-use crate::decoded::decode;
 use crate::reply::Desk;
 use crate::reply::reply;
-use crate::request::MOST_LINE;
-use crate::request::request_of;
 use libc::STDIN_FILENO;
 use page::Page;
 use page::less;
 use page::lower;
 use page::plus;
+use requests::MOST_LINE;
+use requests::decode;
+use requests::request_of;
 use text::find;
 use text::part;
 

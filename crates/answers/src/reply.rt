@@ -1,9 +1,5 @@
 // The answer to each request, by the proved calls.
 use crate::call;
-use crate::decoded::Decoded;
-use crate::poke::poke;
-use crate::request::MOST_ROOM;
-use crate::request::Request;
 use crate::say::put_build_place;
 use crate::say::put_bytes;
 use crate::say::put_place;
@@ -14,6 +10,10 @@ use dispatch::answer::Answer;
 use dispatch::state::State;
 use page::Page;
 use planfile::ReadAnswer;
+use requests::Decoded;
+use requests::MOST_ROOM;
+use requests::Request;
+use requests::poked;
 use text::part;
 
 // What lent bytes hold before a call.
@@ -123,7 +123,7 @@ fn reply_step(d: Desk, tick: usize, ended: usize) -> Desk {
 }
 
 fn reply_poke(d: Desk, f: usize, i: usize, v: usize) -> Desk {
-    let state = poke(d.state, f, i, v);
+    let state = poked(d.state, f, i, v);
     Desk {
         page: put_state(d.page.put(b"0"), state),
         state: state,

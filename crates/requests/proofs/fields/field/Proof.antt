@@ -2,8 +2,8 @@
 -- Assumes nothing.
 use native.Mathlib.Omega.{arith}
 use Prim.Native.Nat.{_-_}
-use Rattle.answers.proofs.fields.field.Statement.{statement}
-use Rattle.answers.proofs.fields.field.Tie as tie
+use Rattle.requests.proofs.fields.field.Statement.{statement}
+use Rattle.requests.proofs.fields.field.Tie as tie
 
 abbrev Inv-loop : tie.InvT-loop
 Inv-loop line k from₀ i₀ from i = Unit {0}

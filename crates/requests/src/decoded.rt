@@ -10,7 +10,7 @@ const MOST_BYTES: usize = 65536;
 pub(crate) const NONE: usize = usize::MAX;
 
 // Where the bytes of fields 1 to 3 end, each behind those before it: a list or a plan, and two tables.
-pub(crate) struct Decoded {
+pub struct Decoded {
     pub list: usize,
     pub lo: usize,
     pub hi: usize,
@@ -38,7 +38,7 @@ fn end_of(room: &mut [u8], at: usize, s: &[u8]) -> usize {
 }
 
 // A request has its bytes in its first fields: so these are decoded whatever they are for.
-pub(crate) fn decode(line: &[u8], room: &mut [u8]) -> Decoded {
+pub fn decode(line: &[u8], room: &mut [u8]) -> Decoded {
     let list = end_of(room, 0, field(line, 1));
     let lo = end_of(room, list, field(line, 2));
     let hi = end_of(room, lo, field(line, 3));

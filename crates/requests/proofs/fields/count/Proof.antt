@@ -3,8 +3,8 @@
 use native.Mathlib.Omega.{arith}
 use Prim.Native.Nat.{_≤_, _+_, _-_}
 use lib.ListN.{length}
-use Rattle.answers.proofs.fields.count.Statement.{statement}
-use Rattle.answers.proofs.fields.count.Tie as tie
+use Rattle.requests.proofs.fields.count.Statement.{statement}
+use Rattle.requests.proofs.fields.count.Tie as tie
 
 abbrev Inv-loop : tie.InvT-loop
 Inv-loop line k₀ e₀ k e = k ≤ e + 1

@@ -3,8 +3,8 @@
 use native.Mathlib.Omega.{arith}
 use Prim.Native.Nat.{_≤_, _-_}
 use lib.ListN.{length}
-use Rattle.answers.proofs.fields.place_in.Statement.{statement}
-use Rattle.answers.proofs.fields.place_in.Tie as tie
+use Rattle.requests.proofs.fields.place_in.Statement.{statement}
+use Rattle.requests.proofs.fields.place_in.Tie as tie
 
 abbrev Inv-loop : tie.InvT-loop
 Inv-loop names s k₀ from₀ k from = k ≤ from

@@ -9,15 +9,15 @@ use crate::poke::kind_of;
 use text::Decimal;
 
 // A longer line is not kept, and cannot be read.
-pub(crate) const MOST_LINE: usize = 400000;
+pub const MOST_LINE: usize = 400000;
 
 // No number is larger, and no more bytes are lent.
 const MOST_NUMBER: usize = 65535;
 
-pub(crate) const MOST_ROOM: usize = 4096;
+pub const MOST_ROOM: usize = 4096;
 
 // A request with its numbers; its bytes are decoded.
-pub(crate) enum Request {
+pub enum Request {
     List,
     Check,
     Write(usize),
@@ -86,7 +86,7 @@ fn read_poke(line: &[u8]) -> Request {
     asked(Request::Poke(f, i, v), line, 4, i, v)
 }
 
-pub(crate) fn request_of(line: &[u8], d: Decoded) -> Request {
+pub fn request_of(line: &[u8], d: Decoded) -> Request {
     let words = b"list check write build read open step poke";
     match place_in(words, field(line, 0)) {
         0 => asked(Request::List, line, 2, d.list, 0),

@@ -149,7 +149,7 @@ fn poke_row(mut s: State, f: usize, i: usize, w: u16, b: u8) -> State {
 }
 
 // The state with v in place i of a field.
-pub(crate) fn poke(mut s: State, f: usize, i: usize, v: usize) -> State {
+pub fn poked(mut s: State, f: usize, i: usize, v: usize) -> State {
     let w = (v % 65536) as u16;
     let b = (v % 256) as u8;
     match f {
