@@ -1,13 +1,24 @@
 // What building and checking say, on a page. The calls stand here by themselves: what they promise is proved where they are
 // made, and no page needs it.
 use drawing::put_counts;
+use joblist::EDGE_BYTES;
+use joblist::HEAD_BYTES;
+use joblist::JOB_BYTES;
+use joblist::MOST_EDGES;
+use joblist::MOST_JOBS;
+use joblist::MOST_SLOTS;
 use jobtext::Names;
 use merge::Built;
 use page::Page;
 use planfile::ReadAnswer;
+use planfile::TRAILER_BYTES;
 
-// No plan has more bytes.
-pub const PLAN_ROOM: usize = 3216;
+// No plan has more bytes: the largest list, two tables and the trailer.
+pub const PLAN_ROOM: usize = HEAD_BYTES
+    + JOB_BYTES * MOST_JOBS
+    + EDGE_BYTES * MOST_EDGES
+    + 2 * MOST_SLOTS
+    + TRAILER_BYTES;
 
 // A plan that was built, and how many bytes it has; none where the page says why not.
 pub struct Plan {

@@ -4,6 +4,7 @@ use crate::plan::list_of;
 use crate::plan::switches;
 use crate::terminal::put_counts;
 use joblist::MOST_JOBS;
+use joblist::MOST_SLOTS;
 use jobtext::Names;
 use jobtext::list;
 use page::Page;
@@ -15,8 +16,10 @@ const LEFT: usize = 150;
 
 const TOP: usize = 112;
 
-// The room for a letter of a name.
+// The room for a letter of a name, and what is left free beside a name, and under and to the right of the tables.
 const LETTER: usize = 8;
+
+const MARGIN: usize = 24;
 
 // The height of a row, of what is filled in it, and of what stands between the tables.
 const ROW: usize = 26;
@@ -24,8 +27,6 @@ const ROW: usize = 26;
 const FILLED: usize = 18;
 
 const BETWEEN: usize = 64;
-
-const MOST_SLOTS: usize = 1024;
 
 // How each kind looks.
 const STYLE: [u8; 410] =
@@ -80,7 +81,7 @@ fn width(l: usize) -> usize {
     8
 }
 
-// t slots of width w.
+// t slots, or letters, of width w.
 fn across(t: usize, w: usize) -> usize {
     if MOST_SLOTS < t {
         return 0;
@@ -109,19 +110,11 @@ fn larger(a: usize, b: usize) -> usize {
     a
 }
 
-// The room that a name takes, with some before and after it.
-fn room_of(size: usize) -> usize {
-    if size < MOST_SLOTS {
-        return 24 + LETTER * size;
-    }
-    0
-}
-
 // The room to the left of slot 0: for the longest of n names.
 fn margin(names: Names, n: usize) -> usize {
     let mut most = LEFT;
     for j in 0..n {
-        most = larger(most, room_of(names.width(j)));
+        most = larger(most, plus(MARGIN, across(names.width(j), LETTER)));
     }
     most
 }
@@ -371,8 +364,8 @@ fn heading(page: Page, list: &[u8]) -> Page {
 pub fn put_picture(page: Page, plan: &[u8], names: Names) -> Page {
     let list = list_of(plan);
     let sheet = Sheet::new(plan, names);
-    let w = larger(540, plus(sheet.x_of(list::slots(list)), 24));
-    let h = plus(sheet.y_of(true, sheet.rows), 24);
+    let w = larger(540, plus(sheet.x_of(list::slots(list)), MARGIN));
+    let h = plus(sheet.y_of(true, sheet.rows), MARGIN);
     let low = table(
         heading(head(page, w, h), list),
         plan,

@@ -4,6 +4,7 @@ use crate::plan::entry;
 use crate::plan::is_open;
 use crate::plan::list_of;
 use crate::plan::switches;
+use joblist::MOST_SLOTS;
 use jobtext::Names;
 use jobtext::list;
 use page::Page;
@@ -17,7 +18,7 @@ const WIDE: usize = 16;
 // The slots of a block, and the blocks of the longest frame.
 const FOLD: usize = 32;
 
-const BLOCKS: usize = 32;
+const BLOCKS: usize = MOST_SLOTS / FOLD;
 
 // The columns of a job's label, and of the name in it.
 const LABEL: usize = 15;

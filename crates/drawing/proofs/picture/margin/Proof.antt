@@ -17,8 +17,11 @@ loop-holds c = tt
 width-requires : tie.Need-width-requires Inv-loop μ-loop
 width-requires c κs = tt
 
-room-of-requires : tie.Need-room-of-requires Inv-loop μ-loop
-room-of-requires c κs = tt
+across-requires : tie.Need-across-requires Inv-loop μ-loop
+across-requires c κs = tt
+
+plus-requires : tie.Need-plus-requires Inv-loop μ-loop
+plus-requires c κs = tt
 
 larger-requires : tie.Need-larger-requires Inv-loop μ-loop
 larger-requires c κs = tt
@@ -43,7 +46,8 @@ margin-spec =
     μ-loop
     loop-holds
     width-requires
-    room-of-requires
+    across-requires
+    plus-requires
     larger-requires
     add-j
     loop-less
