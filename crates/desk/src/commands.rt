@@ -1,11 +1,10 @@
 // The commands, each with the files that it reads and writes.
-use crate::plans;
-use crate::plans::list_of;
 use files::complain;
 use files::send;
 use jobtext::Jobs;
 use jobtext::Names;
 use page::Page;
+use plans::list_of;
 use text::Decimal;
 use text::part;
 use text::same;
@@ -137,7 +136,7 @@ fn draw(plan: &[u8], names: Names, is_svg: bool) {
         return;
     }
     if is_svg {
-        send(drawing::put_picture(Page::output(), plan, names));
+        send(picture::put_picture(Page::output(), plan, names));
         refuse(plan, names);
         return;
     }

@@ -1,7 +1,6 @@
 // desk: the command for the people at the desk. What it does is done by the proved calls; this reads, writes and prints.
 mod commands;
 mod help;
-mod plans;
 mod story;
 
 use text::same;

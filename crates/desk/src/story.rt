@@ -1,5 +1,4 @@
 // The whole story on a list of its own: a gate, a dish and a decoder share one computer.
-use crate::plans;
 use files::send;
 use jobtext::Names;
 use page::Page;

@@ -1,8 +1,6 @@
-// A plan's two tables drawn to scale: on a terminal, and as an SVG picture.
-mod picture;
-mod plan;
+// A plan's two tables drawn to scale in the columns of a terminal.
+pub mod plan;
 mod terminal;
 
-pub use picture::put_picture;
 pub use terminal::put_counts;
 pub use terminal::put_tables;

@@ -7,12 +7,12 @@ use verdict::count::entries_before;
 use verdict::count::entry_at;
 
 // The list of a plan.
-pub(crate) fn list_of(plan: &[u8]) -> &[u8] {
+pub fn list_of(plan: &[u8]) -> &[u8] {
     planfile::list_of(plan)
 }
 
 // The entry of one of the two tables.
-pub(crate) fn entry(plan: &[u8], is_high: bool, t: usize) -> usize {
+pub fn entry(plan: &[u8], is_high: bool, t: usize) -> usize {
     if is_high {
         return entry_at(high_of(plan), t);
     }
@@ -20,7 +20,7 @@ pub(crate) fn entry(plan: &[u8], is_high: bool, t: usize) -> usize {
 }
 
 // How many of a table's slots before slot t name a job.
-pub(crate) fn entries(plan: &[u8], is_high: bool, j: usize, t: usize) -> usize {
+pub fn entries(plan: &[u8], is_high: bool, j: usize, t: usize) -> usize {
     if is_high {
         return entries_before(high_of(plan), j, t);
     }
@@ -28,7 +28,7 @@ pub(crate) fn entries(plan: &[u8], is_high: bool, j: usize, t: usize) -> usize {
 }
 
 // Whether a high job with CHI > CLO has its CLO-th unit in slot t of table LO.
-pub(crate) fn switches(plan: &[u8], t: usize) -> bool {
+pub fn switches(plan: &[u8], t: usize) -> bool {
     let list = list_of(plan);
     let j = entry(plan, false, t);
     if list::jobs(list) <= j {
@@ -45,7 +45,7 @@ pub(crate) fn switches(plan: &[u8], t: usize) -> bool {
 }
 
 // Whether job j may run in slot t.
-pub(crate) fn is_open(plan: &[u8], j: usize, t: usize) -> bool {
+pub fn is_open(plan: &[u8], j: usize, t: usize) -> bool {
     let list = list_of(plan);
     if t < list::arrival(list, j) {
         return false;

@@ -35,12 +35,12 @@ fn answer(plan: &[u8]) -> ReadAnswer {
     planfile::read(plan)
 }
 
-pub(crate) fn list_of(plan: &[u8]) -> &[u8] {
+pub fn list_of(plan: &[u8]) -> &[u8] {
     planfile::list_of(plan)
 }
 
 // Builds the plan of a list.
-pub(crate) fn build(page: Page, list: &[u8], names: Names) -> Plan {
+pub fn build(page: Page, list: &[u8], names: Names) -> Plan {
     let mut bytes = [0u8; PLAN_ROOM];
     match built(list, &mut bytes) {
         Built::Plan(k) => Plan {
@@ -61,12 +61,12 @@ fn refusal(plan: &[u8]) -> usize {
     planfile::read_number(answer(plan))
 }
 
-pub(crate) fn is_accepted(plan: &[u8]) -> bool {
+pub fn is_accepted(plan: &[u8]) -> bool {
     refusal(plan) == 0
 }
 
 // Whether a plan is whole, though the check may find a fault in its tables.
-pub(crate) fn is_whole(plan: &[u8]) -> bool {
+pub fn is_whole(plan: &[u8]) -> bool {
     let n = refusal(plan);
     if n == 0 {
         return true;
@@ -78,7 +78,7 @@ pub(crate) fn is_whole(plan: &[u8]) -> bool {
 }
 
 // The fault of a plan, or why it is none; nothing where it is accepted.
-pub(crate) fn put_fault(page: Page, plan: &[u8], names: Names) -> Page {
+pub fn put_fault(page: Page, plan: &[u8], names: Names) -> Page {
     match answer(plan) {
         ReadAnswer::Plan(_) => page,
         ReadAnswer::No(w) => {
@@ -89,7 +89,7 @@ pub(crate) fn put_fault(page: Page, plan: &[u8], names: Names) -> Page {
 }
 
 // The counts of a plan, after a yes.
-pub(crate) fn put_yes(page: Page, path: &[u8], plan: &[u8]) -> Page {
+pub fn put_yes(page: Page, path: &[u8], plan: &[u8]) -> Page {
     let named = page.put(b"yes: ")
         .put(path)
         .put(b", ")
@@ -99,7 +99,7 @@ pub(crate) fn put_yes(page: Page, path: &[u8], plan: &[u8]) -> Page {
 }
 
 // Yes, or the fault.
-pub(crate) fn put_check(page: Page, path: &[u8], plan: &[u8], names: Names) -> Page {
+pub fn put_check(page: Page, path: &[u8], plan: &[u8], names: Names) -> Page {
     if is_accepted(plan) {
         return put_yes(page, path, plan);
     }
@@ -107,7 +107,7 @@ pub(crate) fn put_check(page: Page, path: &[u8], plan: &[u8], names: Names) -> P
 }
 
 // Both tables, with the fault where there is one.
-pub(crate) fn put_show(page: Page, plan: &[u8], names: Names) -> Page {
+pub fn put_show(page: Page, plan: &[u8], names: Names) -> Page {
     let in_colour = libc::isatty(libc::STDOUT_FILENO) == 1;
     put_fault(
         drawing::put_tables(page, plan, names, in_colour),

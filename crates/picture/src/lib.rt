@@ -1,8 +1,8 @@
-// The two tables as an SVG picture.
-use crate::plan::entry;
-use crate::plan::list_of;
-use crate::plan::switches;
-use crate::terminal::put_counts;
+// A plan's two tables as an SVG picture.
+use drawing::plan::entry;
+use drawing::plan::list_of;
+use drawing::plan::switches;
+use drawing::put_counts;
 use joblist::MOST_JOBS;
 use joblist::MOST_SLOTS;
 use jobtext::Names;

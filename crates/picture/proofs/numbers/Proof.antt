@@ -1,15 +1,15 @@
--- `each_switch` is safe and ends: the measure is what is left of its turns.
+-- `numbers` is safe and ends: the measure is what is left of its turns.
 -- Assumes nothing.
 use native.Mathlib.Omega.{arith}
 use Prim.Native.Nat.{_-_}
-use Rattle.drawing.proofs.picture.each_switch.Statement.{statement}
-use Rattle.drawing.proofs.picture.each_switch.Tie as tie
+use Rattle.picture.proofs.numbers.Statement.{statement}
+use Rattle.picture.proofs.numbers.Tie as tie
 
 abbrev Inv-loop : tie.InvT-loop
-Inv-loop plan sheet to₀ t₀ t-end to t = Unit {0}
+Inv-loop plan sheet is-high to₀ t₀ t-end to t = Unit {0}
 
 abbrev μ-loop : tie.MeasureT-loop
-μ-loop plan sheet to₀ t₀ t-end to t = t-end - t
+μ-loop plan sheet is-high to₀ t₀ t-end to t = t-end - t
 
 list-of-requires : tie.Need-list-of-requires Inv-loop μ-loop
 list-of-requires c κs = tt
@@ -20,8 +20,8 @@ slots-requires c κs = tt
 loop-holds : tie.Need-loop-holds Inv-loop μ-loop
 loop-holds c = tt
 
-switch-requires : tie.Need-switch-requires Inv-loop μ-loop
-switch-requires c κs = tt
+number-requires : tie.Need-number-requires Inv-loop μ-loop
+number-requires c κs = tt
 
 add-t : tie.Need-add-t Inv-loop μ-loop
 add-t c = omega arith
@@ -35,8 +35,8 @@ loop-again c = tt
 returns : tie.Need-returns Inv-loop μ-loop
 returns c = tt
 
-pub each-switch-spec : {M : Type 1} → statement M
-each-switch-spec =
+pub numbers-spec : {M : Type 1} → statement M
+numbers-spec =
     tie.close
     (tie.spec
     Inv-loop
@@ -44,7 +44,7 @@ each-switch-spec =
     list-of-requires
     slots-requires
     loop-holds
-    switch-requires
+    number-requires
     add-t
     loop-less
     loop-again

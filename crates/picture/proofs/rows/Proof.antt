@@ -2,8 +2,8 @@
 -- Assumes nothing.
 use native.Mathlib.Omega.{arith}
 use Prim.Native.Nat.{_-_}
-use Rattle.drawing.proofs.picture.rows.Statement.{statement}
-use Rattle.drawing.proofs.picture.rows.Tie as tie
+use Rattle.picture.proofs.rows.Statement.{statement}
+use Rattle.picture.proofs.rows.Tie as tie
 
 abbrev Inv-loop : tie.InvT-loop
 Inv-loop plan names sheet is-high to₀ j₀ j-end to j = Unit {0}

@@ -2,8 +2,8 @@
 -- Assumes nothing.
 use native.Mathlib.Omega.{arith}
 use Prim.Native.Nat.{_-_}
-use Rattle.drawing.proofs.picture.slots.Statement.{statement}
-use Rattle.drawing.proofs.picture.slots.Tie as tie
+use Rattle.picture.proofs.slots.Statement.{statement}
+use Rattle.picture.proofs.slots.Tie as tie
 
 abbrev Inv-loop : tie.InvT-loop
 Inv-loop plan sheet is-high j to₀ t₀ t-end to t = Unit {0}
