@@ -3,23 +3,26 @@ mod commands;
 mod help;
 mod story;
 
-use text::same;
+// Whether a word of the command is this one.
+fn is(word: &[u8], name: &[u8]) -> bool {
+    text::same(word, name)
+}
 
 // Which words of the command name files.
 fn show(b: &[u8], c: &[u8], d: &[u8]) {
-    if same(b, b"--svg") {
+    if is(b, b"--svg") {
         commands::show(c, d, true);
         return;
     }
-    if same(c, b"--svg") {
+    if is(c, b"--svg") {
         commands::show(b, d, true);
         return;
     }
-    commands::show(b, c, same(d, b"--svg"));
+    commands::show(b, c, is(d, b"--svg"));
 }
 
 fn run(b: &[u8], c: &[u8], d: &[u8], e: &[u8]) {
-    if same(c, b"--demo") {
+    if is(c, b"--demo") {
         commands::run(b, d, true, e);
         return;
     }
@@ -28,11 +31,11 @@ fn run(b: &[u8], c: &[u8], d: &[u8], e: &[u8]) {
 
 // The commands that are given two files or more.
 fn on_files(a: &[u8], b: &[u8], c: &[u8], d: &[u8], e: &[u8]) {
-    if same(a, b"build") {
+    if is(a, b"build") {
         commands::build(b, c);
         return;
     }
-    if same(a, b"run") {
+    if is(a, b"run") {
         run(b, c, d, e);
         return;
     }
@@ -41,15 +44,15 @@ fn on_files(a: &[u8], b: &[u8], c: &[u8], d: &[u8], e: &[u8]) {
 
 // The commands that are given a plan at least.
 fn on_plan(a: &[u8], b: &[u8], c: &[u8], d: &[u8], e: &[u8]) {
-    if same(a, b"check") {
+    if is(a, b"check") {
         commands::check(b, c);
         return;
     }
-    if same(a, b"show") {
+    if is(a, b"show") {
         show(b, c, d);
         return;
     }
-    if same(a, b"list") {
+    if is(a, b"list") {
         commands::list(b);
         return;
     }
@@ -61,11 +64,11 @@ fn on_plan(a: &[u8], b: &[u8], c: &[u8], d: &[u8], e: &[u8]) {
 }
 
 fn start(a: &[u8], b: &[u8], c: &[u8], d: &[u8], e: &[u8]) {
-    if same(a, b"demo") {
+    if is(a, b"demo") {
         story::tell();
         return;
     }
-    if same(a, b"words") {
+    if is(a, b"words") {
         commands::words();
         return;
     }
