@@ -6,7 +6,8 @@ use crate::hut;
 use crate::named::{Named, MOST_PLAN_BYTES};
 use crate::plain::build::build;
 use crate::plain::check::check;
-use crate::plain::dispatch::{step, State};
+use crate::plain::dispatch::step;
+use crate::state::State;
 
 const STEPS: usize = 10_000;
 

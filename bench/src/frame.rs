@@ -1,7 +1,8 @@
 //! The end marks of a frame that repeats: what the dispatcher's steps are timed over.
 
-use crate::plain::dispatch::{step, State};
+use crate::plain::dispatch::step;
 use crate::plain::IDLE;
+use crate::state::State;
 
 #[derive(Clone, Copy)]
 pub enum Ends {

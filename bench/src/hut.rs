@@ -4,7 +4,7 @@
 use std::mem::MaybeUninit;
 
 use crate::answer::Answer;
-use crate::plain::dispatch::State;
+use crate::state::State;
 
 #[repr(C)]
 struct Running {

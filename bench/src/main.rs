@@ -10,16 +10,24 @@ mod frame;
 mod hut;
 mod named;
 mod plain;
-// the second program's; it draws in more ways than are needed here
+mod timing;
+
+// the second program's, which has more than is needed here
+#[path = "../../tests/second/src/limits.rs"]
+mod limits;
 #[allow(dead_code)]
 #[path = "../../tests/second/src/random.rs"]
 mod random;
-mod timing;
+#[allow(dead_code)]
+#[path = "../../tests/second/src/refusal.rs"]
+mod refusal;
+#[path = "../../tests/second/src/state.rs"]
+mod state;
 
 use answer::Answer;
 use frame::{Ends, Frame};
 use named::{Named, MOST_PLAN_BYTES};
-use plain::dispatch::State;
+use state::State;
 use timing::Timed;
 
 fn main() -> ExitCode {

@@ -1,11 +1,7 @@
 //! A list read from its bytes: 40, 1 to 9, 43, 44.
 
 use crate::answer::Answer;
-
-pub const MOST_JOBS: usize = 64;
-pub const MOST_EDGES: usize = 256;
-pub const MOST_SLOTS: usize = 1024;
-pub const MOST_UNITS: usize = 1024;
+pub use crate::limits::{MOST_EDGES, MOST_JOBS, MOST_SLOTS, MOST_UNITS};
 
 const HEAD_BYTES: usize = 8;
 const JOB_BYTES: usize = 10;

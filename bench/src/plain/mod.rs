@@ -9,5 +9,4 @@ mod late;
 pub mod list;
 mod lotable;
 
-/// The table entry for no job.
-pub const IDLE: u8 = 255;
+pub use crate::limits::IDLE;

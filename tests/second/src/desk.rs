@@ -11,10 +11,11 @@ use std::slice::from_mut;
 
 use crate::build;
 use crate::check;
-use crate::dispatch::{self, State};
+use crate::dispatch;
 use crate::list::{self, MOST_JOBS};
 use crate::plan;
 use crate::refusal::Refusal;
+use crate::state::State;
 
 pub const MOST_LINE: usize = 400_000;
 pub const MOST_BYTES: usize = 65_536;

@@ -1,11 +1,7 @@
 //! The job list, its bytes, and when the desk refuses it ("The job list", "Plan bytes").
 
+pub use crate::limits::{MOST_EDGES, MOST_JOBS, MOST_SLOTS, MOST_UNITS};
 use crate::refusal::Refusal;
-
-pub const MOST_JOBS: usize = 64;
-pub const MOST_EDGES: usize = 256;
-pub const MOST_SLOTS: usize = 1024;
-pub const MOST_UNITS: usize = 1024;
 
 pub const HEAD_BYTES: usize = 8;
 pub const JOB_BYTES: usize = 10;

@@ -9,6 +9,7 @@ mod desk;
 mod dispatch;
 mod executions;
 mod kinds;
+mod limits;
 mod list;
 mod lists;
 mod plan;
@@ -18,6 +19,7 @@ mod refusal;
 mod requests;
 mod runs;
 mod script;
+mod state;
 mod unreadable;
 mod vectors;
 

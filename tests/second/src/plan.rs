@@ -1,11 +1,9 @@
 //! Plans: reading and writing their bytes ("Plan bytes").
 
 use crate::check;
+pub use crate::limits::IDLE;
 use crate::list::{self, Head, List};
 use crate::refusal::Refusal;
-
-/// The table entry for no job.
-pub const IDLE: u8 = 255;
 
 const MARK: [u8; 4] = [0x54, 0x54, 0x50, 0x31];
 pub const TRAILER_BYTES: usize = 8;
