@@ -1,0 +1,5 @@
+pub mod Marks
+pub mod Worst
+pub mod Facts
+pub mod Book
+pub mod Steps

@@ -1,0 +1,8 @@
+// The dispatcher's machine: one step over the parts of a state, lent. No array is copied.
+
+pub mod answer;
+pub mod head;
+pub mod plan;
+mod scan;
+pub mod step;
+pub mod tick;
