@@ -2,93 +2,72 @@
 -- Assumes nothing.
 use Prim.Native.Nat.{ℕ}
 use mathlib.Core.Path.{_≡_, refl}
-use mathlib.Core.Bool.{Bool, true, false}
+use mathlib.Core.Bool.{Bool, true, false, not, _&&_, _||_}
 use lib.Dec.{eqb}
 use borrow.Author.Tests.{eqb-true, eqb-false}
 use Rattle.basics.specs.Choice.{pick}
 use Rattle.basics.specs.Limits.{Limits}
 use Rattle.basics.specs.Marks.{idle}
-use Rattle.dispatch.specs.declared.state.State.{State}
-use Rattle.dispatch.specs.declared.state.Stepped.{Stepped}
-use Rattle.dispatch.specs.declared.answer.Answer.the-variants.{No}
-use Rattle.dispatch.specs.declared.answer.Why.{Why}
-use Rattle.dispatch.specs.declared.answer.Why.the-variants.{BadState, Halted, SameTick, StaleTick, TicksLost, NoJob, PastHigh}
-use Rattle.dispatch.specs.declared.tick.Tick.{Tick}
-use Rattle.dispatch.specs.declared.tick.Tick.the-variants.{Next, Same, Lost, Stale}
-use Rattle.dispatch.specs.Marks.{isSet}
-use Rattle.dispatch.specs.Scan.{pastHigh}
-use Rattle.dispatch.specs.Tick.{tickOf}
-use Rattle.dispatch.specs.Machine.{stateOk, bookOf, goOf, endOf, nextOf, onTick, stepOf, says, haltOf}
-use Rattle.dispatch.specs.Runs.{refusedOf}
+use Rattle.basics.proofs.Choice.{pick-true, pick-false, pick-both}
+use Rattle.machine.specs.Run.{Run}
+use Rattle.machine.specs.declared.plan.Plan.{Plan}
+use Rattle.machine.specs.declared.answer.Answer.the-variants.{No}
+use Rattle.machine.specs.declared.answer.Why.{Why}
+use Rattle.machine.specs.declared.answer.Why.the-variants.{BadState, Halted, SameTick, StaleTick, TicksLost, NoJob, PastHigh}
+use Rattle.machine.specs.declared.tick.Tick.{Tick}
+use Rattle.machine.specs.declared.tick.Tick.the-variants.{Next, Same, Lost, Stale}
+use Rattle.machine.specs.Marks.{isSet}
+use Rattle.machine.specs.Numbers.{haltsOf}
+use Rattle.machine.specs.Scan.{pastHigh}
+use Rattle.machine.specs.Tick.{tickOf}
+use Rattle.machine.specs.Machine.{Ran, says, need, _⨾_, tickTest, haltOf, refusedRun, soundOn, endTest, liveTest, bookJob, bookOf, moveOf, orderOf, testOf, nextOf, answerOf, stepOn}
 
--- what a state has, and has halted, it has after any refusal
-pub refused-has : (P : State → Type 0) (w : Why) (s : State) → P s → P (haltOf s) → P (refusedOf w s)
-refused-has P BadState s a b = a
-refused-has P Halted s a b = a
-refused-has P SameTick s a b = a
-refused-has P StaleTick s a b = a
-refused-has P TicksLost s a b = b
-refused-has P NoJob s a b = a
-refused-has P (PastHigh j) s a b = b
+-- what a run has, and has halted, it has after any refusal
+pub refused-has : (P : Run → Type 0) (w : Why) (r : Run) → P r → P (haltOf r) → P (refusedRun w r)
+refused-has P w r a b = pick-both P (haltsOf w) _ _ b a
 
-module _ (lim : Limits) (s : State) (tick : ℕ) (e : Bool) where
+-- row 37's test of a run
+abbrev pub soundRun : Limits → Plan → Run → Bool
+soundRun lim p r = soundOn lim p (r .head) (r .units)
+
+module _ (lim : Limits) (p : Plan) (r : Run) (tick : ℕ) (e : Bool) where
   -- sound and not halted
   abbrev pub Live : Type 0
-  Live = (stateOk lim s ≡ true) × (isSet (s .halted) ≡ false)
+  Live = (soundRun lim p r ≡ true) × (isSet (r .head .halted) ≡ false)
 
   -- when each refusal is given
   pub data Reason : Why → Type 0 where
-    is-bad : stateOk lim s ≡ false → Reason BadState
-    is-halted : stateOk lim s ≡ true → isSet (s .halted) ≡ true → Reason Halted
-    is-same : Live → tickOf (s .last) tick ≡ Same → Reason SameTick
-    is-stale : Live → tickOf (s .last) tick ≡ Stale → Reason StaleTick
-    is-lost : Live → tickOf (s .last) tick ≡ Lost → Reason TicksLost
-    has-no-job : Live → tickOf (s .last) tick ≡ Next → s .ordered ≡ idle → e ≡ true → Reason NoJob
-    is-past : Live → tickOf (s .last) tick ≡ Next → (s .ordered ≡ idle → ⊥)
-        → pastHigh lim (s .plan .level) (s .plan .chi) (s .units) (s .ordered) e ≡ true → Reason (PastHigh (s .ordered))
+    is-bad : soundRun lim p r ≡ false → Reason BadState
+    is-halted : soundRun lim p r ≡ true → isSet (r .head .halted) ≡ true → Reason Halted
+    is-same : Live → tickOf (r .head .last) tick ≡ Same → Reason SameTick
+    is-stale : Live → tickOf (r .head .last) tick ≡ Stale → Reason StaleTick
+    is-lost : Live → tickOf (r .head .last) tick ≡ Lost → Reason TicksLost
+    has-no-job : Live → tickOf (r .head .last) tick ≡ Next → r .head .ordered ≡ idle → e ≡ true → Reason NoJob
+    is-past : Live → tickOf (r .head .last) tick ≡ Next → (r .head .ordered ≡ idle → ⊥)
+        → pastHigh lim (p .jobs) (r .units) (r .head .ordered) e ≡ true → Reason (PastHigh (r .head .ordered))
 
   -- the last slot, idle or booked
-  pub data Booked : State → Type 0 where
-    was-idle : Booked s
-    was-job : (s .ordered ≡ idle → ⊥) → Booked (bookOf lim s (s .ordered) e)
+  pub data Booked : Run → Type 0 where
+    was-idle : Booked r
+    was-job : (r .head .ordered ≡ idle → ⊥) → Booked (bookJob lim (p .jobs) r e)
 
-  pub data Did : Stepped → Type 0 where
-    refused : {w : Why} → Reason w → Did (says (No w) (refusedOf w s))
-    taken : Live → tickOf (s .last) tick ≡ Next → {b : State} → Booked b → Did (goOf lim b tick)
+  pub data Did : Ran → Type 0 where
+    refused : {w : Why} → Reason w → Did (says (No w) (refusedRun w r))
+    taken : Live → tickOf (r .head .last) tick ≡ Next → {b : Run} → Booked b → Did (orderOf lim p (moveOf lim (p .counts .len) b tick))
 
-  module _ (v : Live) (q : tickOf (s .last) tick ≡ Next) where
-    end-did : (s .ordered ≡ idle → ⊥) → Did (endOf lim s tick e)
-    unfolding endOf pick
-    end-did ne = by-test (pastHigh lim (s .plan .level) (s .plan .chi) (s .units) (s .ordered) e) refl
-      where
-        by-test : (b : Bool) → pastHigh lim (s .plan .level) (s .plan .chi) (s .units) (s .ordered) e ≡ b
-            → Did (pick b (says (No (PastHigh (s .ordered))) (haltOf s)) (goOf lim (bookOf lim s (s .ordered) e) tick))
-        by-test true h = refused (is-past v q ne h)
-        by-test false h = taken v q (was-job ne)
-
-    next-did : Did (nextOf lim s tick e)
-    unfolding nextOf pick
-    next-did = by-test (eqb (s .ordered) idle) refl e refl
-      where
-        by-test : (b : Bool) → eqb (s .ordered) idle ≡ b → (c : Bool) → e ≡ c
-            → Did (pick b (pick c (says (No NoJob) s) (goOf lim s tick)) (endOf lim s tick e))
-        by-test true h true k = refused (has-no-job v q (eqb-true _ _ h) k)
-        by-test true h false k = taken v q was-idle
-        by-test false h c k = end-did (eqb-false _ _ h)
-
-  tick-did : Live → (t : Tick) → tickOf (s .last) tick ≡ t → Did (onTick lim s tick e t)
-  unfolding onTick
-  tick-did v Next q = next-did v q
-  tick-did v Same q = refused (is-same v q)
-  tick-did v Lost q = refused (is-lost v q)
-  tick-did v Stale q = refused (is-stale v q)
-
-  pub did : Did (stepOf lim s tick e)
-  unfolding stepOf pick
-  did = by-test (stateOk lim s) refl (isSet (s .halted)) refl
+  pub did : Did (stepOn lim p r tick e)
+  unfolding stepOn testOf liveTest answerOf nextOf endTest need _⨾_ tickTest bookOf pick
+  did = by-test (soundRun lim p r) refl (isSet (r .head .halted)) refl (tickOf (r .head .last) tick) refl (eqb (r .head .ordered) idle) refl e refl (pastHigh lim (p .jobs) (r .units) (r .head .ordered) e) refl
     where
-      by-test : (b : Bool) → stateOk lim s ≡ b → (h : Bool) → isSet (s .halted) ≡ h
-          → Did (pick b (pick h (says (No Halted) s) (onTick lim s tick e (tickOf (s .last) tick))) (says (No BadState) s))
-      by-test true v true k = refused (is-halted v k)
-      by-test true v false k = tick-did (v, k) (tickOf (s .last) tick) refl
-      by-test false v h k = refused (is-bad v)
+      by-test : (a : Bool) → soundRun lim p r ≡ a → (h : Bool) → isSet (r .head .halted) ≡ h → (t : Tick) → tickOf (r .head .last) tick ≡ t
+          → (i : Bool) → eqb (r .head .ordered) idle ≡ i → (c : Bool) → e ≡ c → (z : Bool) → pastHigh lim (p .jobs) (r .units) (r .head .ordered) e ≡ z
+          → Did (answerOf lim p r tick e (need a BadState ⨾ need (not h) Halted ⨾ tickTest t ⨾ need (not (i && c)) NoJob ⨾ need (i || not z) (PastHigh (r .head .ordered))))
+      by-test false v h k t m i n c l z w = refused (is-bad v)
+      by-test true v true k t m i n c l z w = refused (is-halted v k)
+      by-test true v false k Same m i n c l z w = refused (is-same (v, k) m)
+      by-test true v false k Lost m i n c l z w = refused (is-lost (v, k) m)
+      by-test true v false k Stale m i n c l z w = refused (is-stale (v, k) m)
+      by-test true v false k Next m true n true l z w = refused (has-no-job (v, k) m (eqb-true _ _ n) l)
+      by-test true v false k Next m true n false l z w = rw (n) (taken (v, k) m was-idle)
+      by-test true v false k Next m false n c l true w = refused (is-past (v, k) m (eqb-false _ _ n) w)
+      by-test true v false k Next m false n c l false w = rw (n) (taken (v, k) m (was-job (eqb-false _ _ n)))

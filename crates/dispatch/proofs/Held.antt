@@ -11,12 +11,15 @@ use borrow.Author.Tests.{ltb-true}
 use Rattle.basics.specs.Choice.{pick}
 use Rattle.basics.specs.Limits.{firstEdition}
 use Rattle.basics.proofs.Choice.{pick-both}
+use Rattle.machine.specs.Run.{Run, withHead, withSlot}
+use Rattle.machine.specs.declared.plan.Plan.{Plan}
 use Rattle.dispatch.specs.declared.state.State.{State}
 use Rattle.dispatch.specs.declared.state.Stepped.{Stepped}
-use Rattle.dispatch.specs.declared.answer.Answer.{Answer}
-use Rattle.dispatch.specs.Scan.{bump, namedIn, choiceIn}
-use Rattle.dispatch.specs.Machine.{bookOf, moveOf, withSlot, withLast, withHalted, openFrameOf, orderOf, goOf, stepOf}
-use Rattle.dispatch.specs.Runs.{Given, Each, answersBy, stateBy, answersOf, stateOf, Words, Held}
+use Rattle.machine.specs.declared.answer.Answer.{Answer}
+use Rattle.machine.specs.Scan.{bump, namedIn, choiceIn}
+use Rattle.machine.specs.Machine.{Ran, takes, haltOf, bookJob, openFrameOf, moveOf, orderOf, stepOn}
+use Rattle.dispatch.specs.State.{runOf, stepOf}
+use Rattle.dispatch.specs.Runs.{Given, Each, answersBy, stateBy, answersOf, stateOf, Words, HeldPlan, HeldHead, HeldRun, Held}
 use Rattle.dispatch.proofs.Did.{refused-has, Did, refused, taken, Booked, was-idle, was-job, did}
 use Rattle.basics.proofs.At.{set-each, zeros-at}
 
@@ -35,78 +38,77 @@ bump-fits u h = by-test (ltb u (firstEdition .budget)) refl
     by-test true q = let l : u < firstEdition .budget = ltb-true _ _ q in omega arith
     by-test false q = h
 
-module _ (s : State) (h : Held s) where
-  book-held : (j : ℕ) (e : Bool) → Held (bookOf firstEdition s j e)
-  unfolding bookOf
-  book-held j e =
+module _ (r : Run) (h : HeldRun r) where
+  book-held : (jobs : List ℕ) (e : Bool) → HeldRun (bookJob firstEdition jobs r e)
+  unfolding bookJob
+  book-held jobs e =
       record {
-        plan = h .plan;
-        slot = h .slot;
-        last = h .last;
-        ordered = h .ordered;
-        high = pick-both (λ x. x < 2 ^ 8) _ _ _ (omega arith) (h .high);
-        halted = h .halted;
-        units = words-set _ _ _ j _ (bump-fits _ (h .units .fits j)) (h .units);
-        done = pick-both (Words 8 (firstEdition .jobs)) _ _ _ (words-set _ _ _ j 1 (omega arith) (h .done)) (h .done);
-        cut = pick-both (Words 8 (firstEdition .jobs)) _ _ _ (words-set _ _ _ j 1 (omega arith) (h .cut)) (h .cut);
+        head =
+            record {
+              slot = h .head .slot;
+              last = h .head .last;
+              ordered = h .head .ordered;
+              high = pick-both (λ x. x < 2 ^ 8) _ _ _ (omega arith) (h .head .high);
+              halted = h .head .halted;
+              spare = h .head .spare;
+            };
+        units = words-set _ _ _ (r .head .ordered) _ (bump-fits _ (h .units .fits (r .head .ordered))) (h .units);
+        done = pick-both (Words 8 (firstEdition .jobs)) _ _ _ (words-set _ _ _ (r .head .ordered) 1 (omega arith) (h .done)) (h .done);
+        cut = pick-both (Words 8 (firstEdition .jobs)) _ _ _ (words-set _ _ _ (r .head .ordered) 1 (omega arith) (h .cut)) (h .cut);
       }
 
-  move-held : (t : ℕ) → t < 2 ^ 16 → Held (moveOf firstEdition s t)
+  move-held : (len t : ℕ) → len < 2 ^ 16 → t < 2 ^ 16 → HeldRun (moveOf firstEdition len r t)
   unfolding moveOf pick
-  move-held t l = by-test (ltb (s .slot + 1) (s .plan .len)) refl
+  move-held len t m l = by-test (ltb (r .head .slot + 1) len) refl
     where
-      by-test : (b : Bool) → ltb (s .slot + 1) (s .plan .len) ≡ b
-          → Held (withLast (pick b (withSlot s (s .slot + 1)) (openFrameOf firstEdition s)) t)
+      moved : (slot high : ℕ) → slot < 2 ^ 16 → high < 2 ^ 8 → HeldHead (record { slot = slot; last = t; ordered = r .head .ordered; high = high; halted = r .head .halted; spare = r .head .spare })
+      moved slot high a b =
+          record { slot = a; last = l; ordered = h .head .ordered; high = b; halted = h .head .halted; spare = h .head .spare }
+
+      by-test : (b : Bool) → ltb (r .head .slot + 1) len ≡ b
+          → HeldRun (takes (pick b (withHead r (withSlot (r .head) (r .head .slot + 1))) (openFrameOf firstEdition r)) t)
       by-test true q =
-          record {
-            plan = h .plan;
-            slot = let w : s .slot + 1 < s .plan .len = ltb-true _ _ q in omega (arith, h .plan .len);
-            last = l;
-            ordered = h .ordered;
-            high = h .high;
-            halted = h .halted;
-            units = h .units;
-            done = h .done;
-            cut = h .cut;
-          }
+          let w : r .head .slot + 1 < len = ltb-true _ _ q in
+          record { head = moved (r .head .slot + 1) (r .head .high) (omega arith) (h .head .high); units = h .units; done = h .done; cut = h .cut }
       by-test false q =
           record {
-            plan = h .plan;
-            slot = omega arith;
-            last = l;
-            ordered = h .ordered;
-            high = omega arith;
-            halted = h .halted;
+            head = moved 0 0 (omega arith) (omega arith);
             units = words-zero 16 (firstEdition .jobs) (omega arith);
             done = words-zero 8 (firstEdition .jobs) (omega arith);
             cut = words-zero 8 (firstEdition .jobs) (omega arith);
           }
 
-  order-held : Held (orderOf s .state)
+  order-held : (p : Plan) → HeldPlan p → HeldRun (orderOf firstEdition p r .run)
   unfolding orderOf choiceIn namedIn
-  order-held =
+  order-held p g =
       let P : ℕ → Type 0 = λ x. x < 2 ^ 8 in
       record {
-        plan = h .plan;
-        slot = h .slot;
-        last = h .last;
-        ordered = pick-both P _ _ _ (omega arith) (pick-both P _ _ _ (pick-both P _ _ _ (h .plan .hi .fits _) (h .plan .lo .fits _)) (omega arith));
-        high = h .high;
-        halted = h .halted;
+        head =
+            record {
+              slot = h .head .slot;
+              last = h .head .last;
+              ordered = pick-both P _ _ _ (omega arith) (pick-both P _ _ _ (pick-both P _ _ _ (g .tables .fits _) (g .tables .fits _)) (omega arith));
+              high = h .head .high;
+              halted = h .head .halted;
+              spare = h .head .spare;
+            };
         units = h .units;
         done = h .done;
         cut = h .cut;
       }
 
-  halt-held : Held (withHalted s 1)
+  halt-held : HeldRun (haltOf r)
   halt-held =
       record {
-        plan = h .plan;
-        slot = h .slot;
-        last = h .last;
-        ordered = h .ordered;
-        high = h .high;
-        halted = omega arith;
+        head =
+            record {
+              slot = h .head .slot;
+              last = h .head .last;
+              ordered = h .head .ordered;
+              high = h .head .high;
+              halted = omega arith;
+              spare = h .head .spare;
+            };
         units = h .units;
         done = h .done;
         cut = h .cut;
@@ -114,16 +116,15 @@ module _ (s : State) (h : Held s) where
 
 -- what memory can hold is stepped to what it can hold
 pub held-stays : (s : State) (tick : ℕ) (e : Bool) → Held s → tick < 2 ^ 16 → Held (stepOf firstEdition s tick e .state)
-unfolding goOf
-held-stays s tick e h l = go (stepOf firstEdition s tick e) (did firstEdition s tick e)
+held-stays s tick e h l = record { plan = h .plan; run = go (stepOn firstEdition (s .plan) (runOf s) tick e) (did firstEdition (s .plan) (runOf s) tick e) }
   where
-    booked : (b : State) → Booked firstEdition s tick e b → Held b
-    booked b was-idle = h
-    booked b (was-job ne) = book-held s h (s .ordered) e
+    booked : (b : Run) → Booked firstEdition (s .plan) (runOf s) tick e b → HeldRun b
+    booked b was-idle = h .run
+    booked b (was-job ne) = book-held (runOf s) (h .run) (s .plan .jobs) e
 
-    go : (x : Stepped) → Did firstEdition s tick e x → Held (x .state)
-    go x (refused {w = w} y) = refused-has Held w s h (halt-held s h)
-    go x (taken v q c) = order-held _ (move-held _ (booked _ c) tick l)
+    go : (x : Ran) → Did firstEdition (s .plan) (runOf s) tick e x → HeldRun (x .run)
+    go x (refused {w = w} y) = refused-has HeldRun w (runOf s) (h .run) (halt-held (runOf s) (h .run))
+    go x (taken v q c) = order-held _ (move-held _ (booked _ c) (s .plan .counts .len) tick (h .plan .len) l) (s .plan) (h .plan)
 
 -- a run by any step that is the machine's wherever memory can hold the state and 16 bits the tick is the machine's run
 pub run-is-machine : (f : State → ℕ → Bool → Stepped)

@@ -1,13 +1,8 @@
-pub mod Marks
-pub mod Facts
-pub mod Book
-pub mod Steps
 pub mod Did
 pub mod Keeps
 pub mod Sound
 pub mod Slots
 pub mod Shift
 pub mod Held
-pub mod Cases
 pub mod Entries
 pub mod Opened

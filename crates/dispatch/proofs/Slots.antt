@@ -14,21 +14,21 @@ use Rattle.basics.specs.Choice.{pick}
 use Rattle.basics.specs.Limits.{Limits}
 use Rattle.basics.proofs.Tests.{not-both}
 use Rattle.basics.proofs.Choice.{pick-both}
-use Rattle.dispatch.specs.declared.plan.Plan.{Plan}
+use Rattle.machine.specs.Run.{Run, withHead, withSlot, freshHead}
+use Rattle.machine.specs.declared.plan.Plan.{Plan}
 use Rattle.dispatch.specs.declared.state.State.{State}
-use Rattle.dispatch.specs.declared.state.Stepped.{Stepped}
-use Rattle.dispatch.specs.declared.answer.Answer.{Answer}
-use Rattle.dispatch.specs.declared.answer.Why.{Why}
-use Rattle.dispatch.specs.declared.answer.Why.the-variants.{BadState, Halted, SameTick, StaleTick, TicksLost, NoJob, PastHigh}
-use Rattle.dispatch.specs.declared.tick.Tick.the-variants.{Next}
-use Rattle.dispatch.specs.Marks.{isSet}
-use Rattle.dispatch.specs.Tick.{difference, tickOf}
-use Rattle.dispatch.specs.Machine.{planOk, stateOk, bookOf, moveOf, withSlot, openFrameOf, orderOf, goOf, freshOf, stepOf}
-use Rattle.dispatch.specs.Numbers.{numberOf, answerNumber}
+use Rattle.machine.specs.declared.answer.Answer.{Answer}
+use Rattle.machine.specs.declared.answer.Why.{Why}
+use Rattle.machine.specs.declared.answer.Why.the-variants.{BadState, Halted, SameTick, StaleTick, TicksLost, NoJob, PastHigh}
+use Rattle.machine.specs.declared.tick.Tick.the-variants.{Next}
+use Rattle.machine.specs.Marks.{isSet}
+use Rattle.machine.specs.Tick.{difference, tickOf}
+use Rattle.machine.specs.Machine.{Ran, planOk, bookJob, openFrameOf, moveOf, freshRun, orderOf, stepOn}
+use Rattle.dispatch.specs.State.{runOf, stateWith, stateOk, freshOf, stepOf}
+use Rattle.machine.specs.Numbers.{numberOf, answerNumber}
 use Rattle.dispatch.specs.Runs.{Given, Each, answersBy, stateBy, answersOf, stateOf, nextTicks, OnlyJobsRefused}
-use Rattle.dispatch.proofs.Facts.{plan-facts, state-facts}
-use Rattle.dispatch.proofs.Did.{is-bad, is-halted, is-same, is-stale, is-lost, has-no-job, is-past, Did, refused, taken, was-idle, was-job, did}
-use Rattle.dispatch.proofs.Keeps.{plan-stays}
+use Rattle.machine.proofs.Facts.{state-facts}
+use Rattle.dispatch.proofs.Did.{soundRun, is-bad, is-halted, is-same, is-stale, is-lost, has-no-job, is-past, Did, refused, taken, was-idle, was-job, did}
 use Rattle.dispatch.proofs.Sound.{sound-stays, fresh-sound}
 
 -- a refusal has a number
@@ -50,56 +50,55 @@ next-is-next f last h =
 
 module _ (lim : Limits) where
   -- one slot more, modulo L
-  move-next : (s : State) (t : ℕ) → s .slot < s .plan .len → moveOf lim s t .slot ≡ (s .slot + 1) % s .plan .len
+  move-next : (len : ℕ) (r : Run) (t : ℕ) → r .head .slot < len → moveOf lim len r t .head .slot ≡ (r .head .slot + 1) % len
   unfolding moveOf pick
-  move-next s t l = by-test (ltb (s .slot + 1) (s .plan .len)) refl
+  move-next len r t l = by-test (ltb (r .head .slot + 1) len) refl
     where
-      by-test : (b : Bool) → ltb (s .slot + 1) (s .plan .len) ≡ b
-          → pick b (withSlot s (s .slot + 1)) (openFrameOf lim s) .slot ≡ (s .slot + 1) % s .plan .len
+      by-test : (b : Bool) → ltb (r .head .slot + 1) len ≡ b
+          → pick b (withHead r (withSlot (r .head) (r .head .slot + 1))) (openFrameOf lim r) .head .slot ≡ (r .head .slot + 1) % len
       by-test true q = sym (mod-eq-of-lt (ltb-true _ _ q))
       by-test false q =
-          let h : s .plan .len ≤ s .slot + 1 = ltb-false _ _ q in
-          let w : s .slot + 1 ≡ s .plan .len = omega arith in
+          let h : len ≤ r .head .slot + 1 = ltb-false _ _ q in
+          let w : r .head .slot + 1 ≡ len = omega arith in
           rw (w) (sym (mod-self _))
 
-  module _ (s : State) (tick : ℕ) (e : Bool) where
+  module _ (p : Plan) (r : Run) (tick : ℕ) (e : Bool) where
     -- a step that gives an order was sound and moved on
-    pub ordered-moves : answerNumber (stepOf lim s tick e .answer) ≡ 0
-        → (stateOk lim s ≡ true) × (stepOf lim s tick e .state .slot ≡ (s .slot + 1) % s .plan .len)
-    unfolding goOf orderOf bookOf
-    ordered-moves = go (stepOf lim s tick e) (did lim s tick e)
+    pub ordered-moves : answerNumber (stepOn lim p r tick e .answer) ≡ 0
+        → (soundRun lim p r ≡ true) × (stepOn lim p r tick e .run .head .slot ≡ (r .head .slot + 1) % p .counts .len)
+    unfolding orderOf bookJob
+    ordered-moves = go (stepOn lim p r tick e) (did lim p r tick e)
       where
-        go : (x : Stepped) → Did lim s tick e x → answerNumber (x .answer) ≡ 0
-            → (stateOk lim s ≡ true) × (x .state .slot ≡ (s .slot + 1) % s .plan .len)
+        go : (x : Ran) → Did lim p r tick e x → answerNumber (x .answer) ≡ 0
+            → (soundRun lim p r ≡ true) × (x .run .head .slot ≡ (r .head .slot + 1) % p .counts .len)
         go x (refused {w = w} y) h = absurd (refused-number w h)
-        go x (taken v q was-idle) h = (v .0, move-next s tick (state-facts lim s (v .0) .slot-low))
-        go x (taken v q (was-job ne)) h = (v .0, move-next (bookOf lim s (s .ordered) e) tick (state-facts lim s (v .0) .slot-low))
+        go x (taken v q was-idle) h = (v .0, move-next (p .counts .len) r tick (state-facts lim p (r .head) (r .units) (v .0) .slot-low))
+        go x (taken v q (was-job ne)) h = (v .0, move-next (p .counts .len) (bookJob lim (p .jobs) r e) tick (state-facts lim p (r .head) (r .units) (v .0) .slot-low))
 
   abbrev NoneRefused : List Answer → Type 0
   NoneRefused l = Each (λ a. answerNumber a ≡ 0) l
 
-  slots-run : (r : List Given) (s : State) (k : ℕ) → s .slot ≡ k % s .plan .len → NoneRefused (answersOf lim s r)
-      → stateOf lim s r .slot ≡ (k + length r) % s .plan .len
+  slots-run : (r : List Given) (s : State) (k : ℕ) → s .head .slot ≡ k % s .plan .counts .len → NoneRefused (answersOf lim s r)
+      → stateOf lim s r .head .slot ≡ (k + length r) % s .plan .counts .len
   unfolding answersBy stateBy
-  slots-run [] s k h n = h ∙ ap (λ i. i % s .plan .len) (let z : k ≡ k + 0 = omega arith in z)
+  slots-run [] s k h n = h ∙ ap (λ i. i % s .plan .counts .len) (let z : k ≡ k + 0 = omega arith in z)
   slots-run (g ∷ r) s k h n =
-      let p = plan-stays lim s (g .tick) (g .ended) in
-      let m = ordered-moves s (g .tick) (g .ended) (n .0) .1 in
+      let m = ordered-moves (s .plan) (runOf s) (g .tick) (g .ended) (n .0) .1 in
       let i = slots-run r (stepOf lim s (g .tick) (g .ended) .state) (k + 1)
-      (m ∙ ap (λ i. (i + 1) % s .plan .len) h ∙ mod-add-mod k (s .plan .len) 1 ∙ ap (λ (q : Plan). (k + 1) % q .len) (sym p)) (n .1) in
-      i ∙ ap (λ (q : Plan). (k + 1 + length r) % q .len) p ∙ ap (λ i. i % s .plan .len) (let z : k + 1 + length r ≡ k + suc (length r) = omega arith in z)
+      (m ∙ ap (λ i. (i + 1) % s .plan .counts .len) h ∙ mod-add-mod k (s .plan .counts .len) 1) (n .1) in
+      i ∙ ap (λ i. i % s .plan .counts .len) (let z : k + 1 + length r ≡ k + suc (length r) = omega arith in z)
 
   -- after k steps from opening, none of them refused, the slot is that of k - 1 modulo L
   pub slot-after-run : (p : Plan) (f : ℕ) (r : List Given) → 1 ≤ length r → NoneRefused (answersOf lim (freshOf lim p f) r)
-      → stateOf lim (freshOf lim p f) r .slot ≡ (length r - 1) % p .len
-  unfolding answersBy stateBy freshOf
+      → stateOf lim (freshOf lim p f) r .head .slot ≡ (length r - 1) % p .counts .len
+  unfolding answersBy stateBy freshOf freshRun freshHead
   slot-after-run p f [] l n = absurd (omega arith)
   slot-after-run p f (g ∷ r) l n =
-      let v = ordered-moves (freshOf lim p f) (g .tick) (g .ended) (n .0) .0 in
-      let w = plan-facts lim p (state-facts lim _ v .plan-ok) .len-low in
-      slots-run (g ∷ r) (freshOf lim p f) (p .len - 1) (sym (mod-eq-of-lt (omega arith))) n
-      ∙ ap (λ i. i % p .len) (let z : p .len - 1 + suc (length r) ≡ length r + p .len = omega arith in z)
-      ∙ add-mod-right (length r) (p .len) ∙ ap (λ i. i % p .len) (let z : length r ≡ suc (length r) - 1 = omega arith in z)
+      let v = ordered-moves p (freshRun lim (p .counts .len) f) (g .tick) (g .ended) (n .0) .0 in
+      let w = state-facts lim p (freshHead (p .counts .len) f) _ v .plan .len-low in
+      slots-run (g ∷ r) (freshOf lim p f) (p .counts .len - 1) (sym (mod-eq-of-lt (omega arith))) n
+      ∙ ap (λ i. i % p .counts .len) (let z : p .counts .len - 1 + suc (length r) ≡ length r + p .counts .len = omega arith in z)
+      ∙ add-mod-right (length r) (p .counts .len) ∙ ap (λ i. i % p .counts .len) (let z : length r ≡ suc (length r) - 1 = omega arith in z)
 
   next-many : (f : ℕ) (es : List Bool) → length (nextTicks f es) ≡ length es
   unfolding nextTicks
@@ -108,32 +107,32 @@ module _ (lim : Limits) where
 
   -- after k next ticks f, f + 1, .. modulo 65536
   pub slot-after : (p : Plan) (f : ℕ) (es : List Bool) → 1 ≤ length es → NoneRefused (answersOf lim (freshOf lim p f) (nextTicks f es))
-      → stateOf lim (freshOf lim p f) (nextTicks f es) .slot ≡ (length es - 1) % p .len
+      → stateOf lim (freshOf lim p f) (nextTicks f es) .head .slot ≡ (length es - 1) % p .counts .len
   slot-after p f es l n =
       rw (← next-many f es) (slot-after-run p f (nextTicks f es) (rw (next-many f es) l) n)
 
   -- a live state whose last tick is f - 1
   record Before (f : ℕ) (s : State) : Type 0 where
     ok : stateOk lim s ≡ true
-    live : isSet (s .halted) ≡ false
-    at : s .last ≡ (f + 65535) % 65536
+    live : isSet (s .head .halted) ≡ false
+    at : s .head .last ≡ (f + 65535) % 65536
 
-  move-live : (s : State) (t : ℕ) → moveOf lim s t .halted ≡ s .halted
+  move-live : (len : ℕ) (r : Run) (t : ℕ) → moveOf lim len r t .head .halted ≡ r .head .halted
   unfolding moveOf
-  move-live s t = pick-both (λ (x : State). x .halted ≡ s .halted) _ _ _ refl refl
+  move-live len r t = pick-both (λ (x : Run). x .head .halted ≡ r .head .halted) _ _ _ refl refl
 
   jobs-run : (es : List Bool) (f : ℕ) (s : State) → Before f s → OnlyJobsRefused (answersOf lim s (nextTicks f es))
-  unfolding answersBy nextTicks goOf orderOf bookOf moveOf
+  unfolding answersBy nextTicks orderOf bookJob moveOf
   jobs-run [] f s b = tt
   jobs-run (e ∷ es) f s b =
-      go (stepOf lim s (f % 65536) e) (did lim s (f % 65536) e) (sound-stays lim s (f % 65536) e (b .ok)) (λ t c. jobs-run es (f + 1) t c)
+      go (stepOn lim (s .plan) (runOf s) (f % 65536) e) (did lim (s .plan) (runOf s) (f % 65536) e) (sound-stays lim s (f % 65536) e (b .ok)) (λ t c. jobs-run es (f + 1) t c)
     where
-      next : tickOf (s .last) (f % 65536) ≡ Next
-      next = next-is-next f (s .last) (b .at)
+      next : tickOf (s .head .last) (f % 65536) ≡ Next
+      next = next-is-next f (s .head .last) (b .at)
 
-      go : (x : Stepped) → Did lim s (f % 65536) e x → stateOk lim (x .state) ≡ true
+      go : (x : Ran) → Did lim (s .plan) (runOf s) (f % 65536) e x → soundRun lim (s .plan) (x .run) ≡ true
           → ((t : State) → Before (f + 1) t → OnlyJobsRefused (answersOf lim t (nextTicks (f + 1) es)))
-          → OnlyJobsRefused (x .answer ∷ answersOf lim (x .state) (nextTicks (f + 1) es))
+          → OnlyJobsRefused (x .answer ∷ answersOf lim (stateWith (s .plan) (x .run)) (nextTicks (f + 1) es))
       go x (refused (is-bad u)) v more = absurd (not-both (b .ok) u)
       go x (refused (is-halted u k)) v more = absurd (not-both k (b .live))
       go x (refused (is-same u k)) v more = let z : _≡_ {A = ℕ} 0 1 = cc (next) in absurd (omega arith)
@@ -142,12 +141,12 @@ module _ (lim : Limits) where
       go x (refused (has-no-job u q i k)) v more = inl refl
       go x (refused (is-past u q n k)) v more = inr refl
       go x (taken u q was-idle) v more =
-          more _ record { ok = v; live = ap isSet (move-live s (f % 65536)) ∙ b .live; at = omega arith }
+          more _ record { ok = v; live = ap isSet (move-live (s .plan .counts .len) (runOf s) (f % 65536)) ∙ b .live; at = omega arith }
       go x (taken u q (was-job ne)) v more =
-          more _ record { ok = v; live = ap isSet (move-live (bookOf lim s (s .ordered) e) (f % 65536)) ∙ b .live; at = omega arith }
+          more _ record { ok = v; live = ap isSet (move-live (s .plan .counts .len) (bookJob lim (s .plan .jobs) (runOf s) e) (f % 65536)) ∙ b .live; at = omega arith }
 
   -- on next ticks from opening on a sound plan the first refusal, if there is one, is 34 or 35
   pub only-jobs-refuse : (p : Plan) → planOk lim p ≡ true → (f : ℕ) (es : List Bool)
       → OnlyJobsRefused (answersOf lim (freshOf lim p f) (nextTicks f es))
-  unfolding freshOf difference isSet
+  unfolding freshOf freshRun freshHead difference isSet
   only-jobs-refuse p h f es = jobs-run es f _ record { ok = fresh-sound lim p f h; live = refl; at = omega arith }

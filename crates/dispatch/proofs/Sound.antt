@@ -14,16 +14,17 @@ use Rattle.basics.proofs.Tests.{not-both}
 use Rattle.basics.proofs.Choice.{pick-both}
 use Rattle.basics.proofs.Below.{all-at, all-each}
 use Rattle.basics.specs.Marks.{idle}
-use Rattle.dispatch.specs.declared.plan.Plan.{Plan}
+use Rattle.machine.specs.Run.{Run, withHead, withSlot, withLast, withHigh, freshHead}
+use Rattle.machine.specs.declared.plan.Plan.{Plan}
 use Rattle.dispatch.specs.declared.state.State.{State}
-use Rattle.dispatch.specs.declared.state.Stepped.{Stepped}
-use Rattle.dispatch.specs.Scan.{byteOk, unitsOk, bump, choiceIn}
-use Rattle.dispatch.specs.Machine.{planOk, stateOk, bookOf, moveOf, openFrameOf, withSlot, withLast, orderOf, goOf, freshOf, stepOf}
-use Rattle.dispatch.specs.Numbers.{answerNumber}
+use Rattle.machine.specs.Scan.{byteOk, unitsOk, bump, choiceIn}
+use Rattle.machine.specs.Machine.{Ran, takes, runOk, planOk, soundOn, bookJob, openFrameOf, moveOf, freshRun, orderOf, stepOn}
+use Rattle.dispatch.specs.State.{runOf, stateOk, freshOf, stepOf}
+use Rattle.machine.specs.Numbers.{answerNumber}
 use Rattle.dispatch.specs.Runs.{Given, Each, answersBy, answersOf}
 use Rattle.basics.proofs.At.{set-each, zeros-at}
-use Rattle.dispatch.proofs.Facts.{plan-facts, state-facts, state-sound, named-ok, job-below}
-use Rattle.dispatch.proofs.Did.{refused-has, is-bad, is-halted, is-same, is-stale, is-lost, has-no-job, is-past, Did, refused, taken, Booked, was-idle, was-job, did}
+use Rattle.machine.proofs.Facts.{plan-facts, state-facts, state-sound, named-ok, job-below}
+use Rattle.dispatch.proofs.Did.{soundRun, refused-has, is-bad, is-halted, is-same, is-stale, is-lost, has-no-job, is-past, Did, refused, taken, Booked, was-idle, was-job, did}
 
 module _ (lim : Limits) where
   units-zero : (k n : ℕ) → unitsOk lim (replicate k 0) n ≡ true
@@ -38,76 +39,67 @@ module _ (lim : Limits) where
       by-test true q = let l : u < lim .budget = ltb-true _ _ q in omega arith
       by-test false q = h
 
-  module _ (s : State) (v : stateOk lim s ≡ true) where
-    book-sound : (e : Bool) → (s .ordered ≡ idle → ⊥) → stateOk lim (bookOf lim s (s .ordered) e) ≡ true
-    unfolding bookOf unitsOk
+  module _ (p : Plan) (r : Run) (v : soundRun lim p r ≡ true) where
+    book-sound : (e : Bool) → (r .head .ordered ≡ idle → ⊥) → soundRun lim p (bookJob lim (p .jobs) r e) ≡ true
+    unfolding bookJob unitsOk
     book-sound e ne =
-        let f = state-facts lim s v in
+        let f = state-facts lim p (r .head) (r .units) v in
         let j = job-below _ _ (f .ordered-ok) ne in
-        let at : (i : ℕ) → i < s .plan .n → getD (s .units) i 0 ≤ lim .budget = λ i l. leb-true _ _ (all-at _ _ i (f .units-ok) l) in
-        state-sound lim (bookOf lim s (s .ordered) e) record {
-          plan-ok = f .plan-ok;
-          slot-low = f .slot-low;
-          ordered-ok = f .ordered-ok;
-          units-ok = all-each _ _ (λ i l. le-leb _ _ (set-each (λ x. x ≤ lim .budget) (s .units) (s .ordered) _ i (bump-top _ (at _ j)) (at i l)));
-        }
+        let at : (i : ℕ) → i < p .counts .n → getD (r .units) i 0 ≤ lim .budget = λ i l. leb-true _ _ (all-at _ _ i (f .units-ok) l) in
+        state-sound lim p (bookJob lim (p .jobs) r e .head) (bookJob lim (p .jobs) r e .units) (f .plan-ok) (f .slot-low) (f .ordered-ok)
+        (all-each _ _ (λ i l. le-leb _ _ (set-each (λ x. x ≤ lim .budget) (r .units) (r .head .ordered) _ i (bump-top _ (at _ j)) (at i l))))
 
-    move-sound : (t : ℕ) → stateOk lim (moveOf lim s t) ≡ true
+    move-sound : (t : ℕ) → soundRun lim p (moveOf lim (p .counts .len) r t) ≡ true
     unfolding moveOf pick
-    move-sound t = by-test (ltb (s .slot + 1) (s .plan .len)) refl
+    move-sound t = by-test (ltb (r .head .slot + 1) (p .counts .len)) refl
       where
-        by-test : (b : Bool) → ltb (s .slot + 1) (s .plan .len) ≡ b
-            → stateOk lim (withLast (pick b (withSlot s (s .slot + 1)) (openFrameOf lim s)) t) ≡ true
+        by-test : (b : Bool) → ltb (r .head .slot + 1) (p .counts .len) ≡ b
+            → soundRun lim p (takes (pick b (withHead r (withSlot (r .head) (r .head .slot + 1))) (openFrameOf lim r)) t) ≡ true
         by-test true q =
-            let f = state-facts lim s v in
-            state-sound lim _ record { plan-ok = f .plan-ok; slot-low = ltb-true _ _ q; ordered-ok = f .ordered-ok; units-ok = f .units-ok }
+            let f = state-facts lim p (r .head) (r .units) v in
+            state-sound lim p (withLast (withSlot (r .head) (r .head .slot + 1)) t) (r .units) (f .plan-ok) (ltb-true _ _ q) (f .ordered-ok) (f .units-ok)
         by-test false q =
-            let f = state-facts lim s v in
-            state-sound lim _ record {
-              plan-ok = f .plan-ok;
-              slot-low = plan-facts lim _ (f .plan-ok) .len-low;
-              ordered-ok = f .ordered-ok;
-              units-ok = units-zero (lim .jobs) (s .plan .n);
-            }
+            let f = state-facts lim p (r .head) (r .units) v in
+            state-sound lim p (withLast (withHigh (withSlot (r .head) 0) 0) t) (replicate (lim .jobs) 0) (f .plan-ok) (f .plan .len-low) (f .ordered-ok) (units-zero (lim .jobs) (p .counts .n))
 
-    order-sound : stateOk lim (orderOf s .state) ≡ true
+    order-sound : soundRun lim p (orderOf lim p r .run) ≡ true
     unfolding orderOf choiceIn byteOk
     order-sound =
-        let f = state-facts lim s v in
-        let P : ℕ → Type 0 = λ x. byteOk (s .plan .n) x ≡ true in
-        state-sound lim _ record {
-          plan-ok = f .plan-ok;
-          slot-low = f .slot-low;
-          ordered-ok = pick-both P _ _ _ refl (pick-both P _ _ _ (named-ok lim s (f .plan-ok) (f .slot-low)) refl);
-          units-ok = f .units-ok;
-        }
+        let f = state-facts lim p (r .head) (r .units) v in
+        let P : ℕ → Type 0 = λ x. byteOk (p .counts .n) x ≡ true in
+        state-sound lim p (orderOf lim p r .run .head) (r .units) (f .plan-ok) (f .slot-low)
+        (pick-both P _ _ _ refl (pick-both P _ _ _ (named-ok lim p (f .plan) _ (r .head .high) (f .slot-low)) refl)) (f .units-ok)
 
-  -- a step keeps a sound state sound
-  pub sound-stays : (s : State) (tick : ℕ) (e : Bool) → stateOk lim s ≡ true → stateOk lim (stepOf lim s tick e .state) ≡ true
-  unfolding goOf stateOk
-  sound-stays s tick e v = go (stepOf lim s tick e) (did lim s tick e)
+  -- a step keeps a sound run sound
+  pub run-sound : (p : Plan) (r : Run) (tick : ℕ) (e : Bool) → soundRun lim p r ≡ true → soundRun lim p (stepOn lim p r tick e .run) ≡ true
+  unfolding soundOn runOk
+  run-sound p r tick e v = go (stepOn lim p r tick e) (did lim p r tick e)
     where
-      booked : (b : State) → Booked lim s tick e b → stateOk lim b ≡ true
+      booked : (b : Run) → Booked lim p r tick e b → soundRun lim p b ≡ true
       booked b was-idle = v
-      booked b (was-job ne) = book-sound s v e ne
+      booked b (was-job ne) = book-sound p r v e ne
 
-      go : (x : Stepped) → Did lim s tick e x → stateOk lim (x .state) ≡ true
-      go x (refused {w = w} y) = refused-has (λ t. stateOk lim t ≡ true) w s v v
-      go x (taken a b c) = order-sound _ (move-sound _ (booked _ c) tick)
+      go : (x : Ran) → Did lim p r tick e x → soundRun lim p (x .run) ≡ true
+      go x (refused {w = w} y) = refused-has (λ t. soundRun lim p t ≡ true) w r v v
+      go x (taken a b c) = order-sound p _ (move-sound p _ (booked _ c) tick)
+
+  -- and a sound state sound
+  pub sound-stays : (s : State) (tick : ℕ) (e : Bool) → stateOk lim s ≡ true → stateOk lim (stepOf lim s tick e .state) ≡ true
+  sound-stays s tick e v = run-sound (s .plan) (runOf s) tick e v
 
   -- the state of a sound plan, fresh
   pub fresh-sound : (p : Plan) (first : ℕ) → planOk lim p ≡ true → stateOk lim (freshOf lim p first) ≡ true
-  unfolding freshOf byteOk
+  unfolding freshOf freshRun freshHead byteOk
   fresh-sound p first h =
       let f = plan-facts lim p h in
-      state-sound lim _ record { plan-ok = h; slot-low = omega (arith, f .len-low); ordered-ok = refl; units-ok = units-zero (lim .jobs) (p .n) }
+      state-sound lim p (freshHead (p .counts .len) first) (replicate (lim .jobs) 0) h (omega (arith, f .len-low)) refl (units-zero (lim .jobs) (p .counts .n))
 
   -- a sound state does not answer 37
   sound-answer : (s : State) (tick : ℕ) (e : Bool) → stateOk lim s ≡ true → answerNumber (stepOf lim s tick e .answer) ≡ 37 → ⊥
-  unfolding goOf orderOf
-  sound-answer s tick e v = go (stepOf lim s tick e) (did lim s tick e)
+  unfolding orderOf
+  sound-answer s tick e v = go (stepOn lim (s .plan) (runOf s) tick e) (did lim (s .plan) (runOf s) tick e)
     where
-      go : (x : Stepped) → Did lim s tick e x → answerNumber (x .answer) ≡ 37 → ⊥
+      go : (x : Ran) → Did lim (s .plan) (runOf s) tick e x → answerNumber (x .answer) ≡ 37 → ⊥
       go x (refused (is-bad u)) h = not-both v u
       go x (refused (is-halted u k)) h = omega arith
       go x (refused (is-same u k)) h = omega arith

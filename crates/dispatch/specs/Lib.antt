@@ -1,7 +1,3 @@
-pub mod Marks
-pub mod Scan
-pub mod Tick
-pub mod Machine
-pub mod Numbers
-pub mod Runs
+pub mod State
 pub mod Open
+pub mod Runs

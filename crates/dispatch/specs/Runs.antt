@@ -1,21 +1,23 @@
 -- Runs: one step for each tick and mark of a list, of any length.
 -- Assumes nothing.
-use Prim.Native.Nat.{ℕ, _+_, _%_, _^_, _<_}
+use Prim.Native.Nat.{ℕ, _+_, _*_, _%_, _^_, _<_}
 use mathlib.Core.Path.{_≡_}
 use mathlib.Core.Logic.{_⊎_}
 use mathlib.Core.Bool.{Bool}
 use mathlib.Core.List.{List, [], _∷_}
 use lib.ListN.{length, getD}
 use Rattle.basics.specs.Limits.{Limits, firstEdition}
-use Rattle.dispatch.specs.declared.plan.Plan.{Plan}
+use Rattle.machine.specs.declared.plan.Plan.{Plan}
+use Rattle.machine.specs.declared.head.Head.{Head}
 use Rattle.dispatch.specs.declared.state.State.{State}
 use Rattle.dispatch.specs.declared.state.Stepped.{Stepped}
-use Rattle.dispatch.specs.declared.answer.Answer.{Answer}
-use Rattle.dispatch.specs.declared.answer.Answer.the-variants.{Order, No}
-use Rattle.dispatch.specs.declared.answer.Why.{Why}
-use Rattle.dispatch.specs.declared.answer.Why.the-variants.{BadState, Halted, SameTick, StaleTick, TicksLost, NoJob, PastHigh}
-use Rattle.dispatch.specs.Machine.{stepOf, haltOf, withLast}
-use Rattle.dispatch.specs.Numbers.{numberOf}
+use Rattle.machine.specs.declared.answer.Answer.{Answer}
+use Rattle.machine.specs.declared.answer.Answer.the-variants.{Order, No}
+use Rattle.machine.specs.declared.answer.Why.{Why}
+use Rattle.machine.specs.Machine.{refusedRun}
+use Rattle.machine.specs.Numbers.{numberOf}
+use Rattle.machine.specs.Run.{Run, withHead, withLast}
+use Rattle.dispatch.specs.State.{runOf, stateWith, stepOf}
 
 -- what a step is given: a tick, and whether the job ordered last signalled its end
 pub record Given : Type 0 where
@@ -57,48 +59,46 @@ OnlyJobsRefused (No w ∷ l) = (numberOf w ≡ 34) ⊎ (numberOf w ≡ 35)
 
 -- what a refusal leaves: 31 and 35 set the halted mark, the others change nothing
 abbrev pub refusedOf : Why → State → State
-refusedOf BadState s = s
-refusedOf Halted s = s
-refusedOf SameTick s = s
-refusedOf StaleTick s = s
-refusedOf TicksLost s = haltOf s
-refusedOf NoJob s = s
-refusedOf (PastHigh j) s = haltOf s
+refusedOf w s = stateWith (s .plan) (refusedRun w (runOf s))
 
 -- d added to a tick and to the last tick taken, modulo 65536
 abbrev pub laterGiven : ℕ → Given → Given
 laterGiven d g = record { tick = (g .tick + d) % 65536; ended = g .ended }
 
+abbrev pub laterRun : ℕ → Run → Run
+laterRun d r = withHead r (withLast (r .head) ((r .head .last + d) % 65536))
+
 abbrev pub laterState : ℕ → State → State
-laterState d s = withLast s ((s .last + d) % 65536)
+laterState d s = stateWith (s .plan) (laterRun d (runOf s))
 
 -- n numbers of k bits each
 pub record Words (k n : ℕ) (l : List ℕ) : Type 0 where
   pub many : length l ≡ n
   pub fits : (i : ℕ) → getD l i 0 < 2 ^ k
 
--- what memory can hold in a plan's and in a state's place
+-- what memory can hold in a plan's, a head's, a run's and a state's place
 pub record HeldPlan (p : Plan) : Type 0 where
-  pub len : p .len < 2 ^ 16
-  pub n : p .n < 2 ^ 16
-  pub m : p .m < 2 ^ 16
-  pub arrival : Words 16 (firstEdition .jobs) (p .arrival)
-  pub deadline : Words 16 (firstEdition .jobs) (p .deadline)
-  pub clo : Words 16 (firstEdition .jobs) (p .clo)
-  pub chi : Words 16 (firstEdition .jobs) (p .chi)
-  pub level : Words 8 (firstEdition .jobs) (p .level)
-  pub from : Words 8 (firstEdition .edges) (p .from)
-  pub to : Words 8 (firstEdition .edges) (p .to)
-  pub lo : Words 8 (firstEdition .slots) (p .lo)
-  pub hi : Words 8 (firstEdition .slots) (p .hi)
+  pub len : p .counts .len < 2 ^ 16
+  pub n : p .counts .n < 2 ^ 16
+  pub m : p .counts .m < 2 ^ 16
+  pub jobs : Words 16 (5 * firstEdition .jobs) (p .jobs)
+  pub edges : Words 8 (2 * firstEdition .edges) (p .edges)
+  pub tables : Words 8 (2 * firstEdition .slots) (p .tables)
+
+pub record HeldHead (h : Head) : Type 0 where
+  pub slot : h .slot < 2 ^ 16
+  pub last : h .last < 2 ^ 16
+  pub ordered : h .ordered < 2 ^ 8
+  pub high : h .high < 2 ^ 8
+  pub halted : h .halted < 2 ^ 8
+  pub spare : h .spare < 2 ^ 8
+
+pub record HeldRun (r : Run) : Type 0 where
+  pub head : HeldHead (r .head)
+  pub units : Words 16 (firstEdition .jobs) (r .units)
+  pub done : Words 8 (firstEdition .jobs) (r .done)
+  pub cut : Words 8 (firstEdition .jobs) (r .cut)
 
 pub record Held (s : State) : Type 0 where
   pub plan : HeldPlan (s .plan)
-  pub slot : s .slot < 2 ^ 16
-  pub last : s .last < 2 ^ 16
-  pub ordered : s .ordered < 2 ^ 8
-  pub high : s .high < 2 ^ 8
-  pub halted : s .halted < 2 ^ 8
-  pub units : Words 16 (firstEdition .jobs) (s .units)
-  pub done : Words 8 (firstEdition .jobs) (s .done)
-  pub cut : Words 8 (firstEdition .jobs) (s .cut)
+  pub run : HeldRun (runOf s)

@@ -1,8 +1,4 @@
-// The dispatcher: a state by value, made of a plan, and the step that each tick takes.
+// The dispatcher: a state, made of a plan's bytes, and the step that each tick takes.
 
-pub mod answer;
 pub mod open;
-pub mod plan;
-mod scan;
 pub mod state;
-pub mod tick;

@@ -1,19 +1,22 @@
 // Opening: the bytes of a plan that the reader accepts, to a fresh state.
 ghost use mathlib.Core.Path.{_≡_};
-ghost use Prim.Native.Nat.{ℕ, _+_, _≤_};
+ghost use Prim.Native.Nat.{ℕ, _+_, _*_, _≤_};
+ghost use mathlib.Core.List.{_++_};
 ghost use lib.ListN.{length, getD};
 ghost use Rattle.basics.specs.Bytes.{u16At};
 ghost use Rattle.basics.specs.Limits.{firstEdition};
-ghost use Rattle.joblist.specs.Fields.{jobs, edges, slots, level, jobAt, listBytes, edgeAt};
-ghost use Rattle.dispatch.specs.Open.{entries, fieldsOf, openOf};
-use crate::plan::Plan;
+ghost use Rattle.joblist.specs.Fields.{headBytes, jobs, edges, slots, jobAt, listBytes};
+ghost use Rattle.dispatch.specs.Open.{entries, jobsOf, edgesOf, tablesOf, fieldsOf, openOf};
 use crate::state::State;
-use joblist::EDGE_BYTES;
 use joblist::HEAD_BYTES;
 use joblist::JOB_BYTES;
-use joblist::MOST_EDGES;
-use joblist::MOST_JOBS;
 use joblist::MOST_SLOTS;
+use machine::plan::Counts;
+use machine::plan::ENDS;
+use machine::plan::ENTRIES;
+use machine::plan::JOBS;
+use machine::plan::NUMBERS;
+use machine::plan::Plan;
 use planfile::ReadAnswer;
 
 pub struct Opened {
@@ -21,50 +24,39 @@ pub struct Opened {
     pub state: State,
 }
 
-// The 16 bits at byte `at` of each of n jobs.
-fn words(list: &[u8], at: usize, n: usize) -> [u16; MOST_JOBS]
-    requires { ⌜ (at ≤ 8) × (n ≤ firstEdition .jobs) × (jobAt n ≤ length (now list)) ⌝ }
-    ensures { λ r. ⌜ r ≡ entries (firstEdition .jobs) (λ j. u16At (now (list .entry)) (jobAt j + at)) n ⌝ }
-{
-    let mut out = [0u16; MOST_JOBS];
-    for j in 0..n {
-        out[j] = joblist::u16_at(list, HEAD_BYTES + JOB_BYTES * j + at) as u16;
-    }
-    out
-}
-
-// The level of each of n jobs.
-fn levels(list: &[u8], n: usize) -> [u8; MOST_JOBS]
+// The numbers of n jobs, 16 bits each.
+fn numbers(list: &[u8], n: usize) -> [u16; JOBS]
     requires { ⌜ (n ≤ firstEdition .jobs) × (jobAt n ≤ length (now list)) ⌝ }
-    ensures { λ r. ⌜ r ≡ entries (firstEdition .jobs) (level (now (list .entry))) n ⌝ }
+    ensures { λ r. ⌜ r ≡ jobsOf firstEdition (now (list .entry)) n ⌝ }
 {
-    let mut out = [0u8; MOST_JOBS];
-    for j in 0..n {
-        out[j] = list[HEAD_BYTES + JOB_BYTES * j + 8];
+    let mut out = [0u16; JOBS];
+    for i in 0..NUMBERS * n {
+        out[i] = joblist::u16_at(list, HEAD_BYTES + 2 * i) as u16;
     }
     out
 }
 
-// Byte `at` of each of m edges after n jobs: where it starts, or where it ends.
-fn ends(list: &[u8], at: usize, n: usize, m: usize) -> [u8; MOST_EDGES]
-    requires { ⌜ (at ≤ 1) × (n ≤ firstEdition .jobs) × (m ≤ firstEdition .edges) × (listBytes n m ≤ length (now list)) ⌝ }
-    ensures { λ r. ⌜ r ≡ entries (firstEdition .edges) (λ e. getD (now (list .entry)) (edgeAt n e + at) 0) m ⌝ }
+// The ends of m edges after n jobs.
+fn ends(list: &[u8], n: usize, m: usize) -> [u8; ENDS]
+    requires { ⌜ (n ≤ firstEdition .jobs) × (m ≤ firstEdition .edges) × (listBytes n m ≤ length (now list)) ⌝ }
+    ensures { λ r. ⌜ r ≡ edgesOf firstEdition (now (list .entry)) n m ⌝ }
 {
-    let mut out = [0u8; MOST_EDGES];
-    for e in 0..m {
-        out[e] = list[HEAD_BYTES + JOB_BYTES * n + EDGE_BYTES * e + at];
+    let mut out = [0u8; ENDS];
+    for i in 0..2 * m {
+        out[i] = list[HEAD_BYTES + JOB_BYTES * n + i];
     }
     out
 }
 
-// A table of n slots.
-fn table(entry: &[u8], n: usize) -> [u8; MOST_SLOTS]
-    requires { ⌜ (n ≤ firstEdition .slots) × (n ≤ length (now entry)) ⌝ }
-    ensures { λ r. ⌜ r ≡ entries (firstEdition .slots) (λ t. getD (now (entry .entry)) t 0) n ⌝ }
+// Both tables, of n slots each.
+fn tables(lo: &[u8], hi: &[u8], n: usize) -> [u8; ENTRIES]
+    requires { ⌜ (n ≤ firstEdition .slots) × (n ≤ length (now lo)) × (n ≤ length (now hi)) ⌝ }
+    ensures { λ r. ⌜ r ≡ tablesOf firstEdition (now (lo .entry)) (now (hi .entry)) n ⌝ }
 {
-    let mut out = [0u8; MOST_SLOTS];
+    let mut out = [0u8; ENTRIES];
     for t in 0..n {
-        out[t] = entry[t];
+        out[t] = lo[t];
+        out[MOST_SLOTS + t] = hi[t];
     }
     out
 }
@@ -78,28 +70,18 @@ fn fields(list: &[u8], lo: &[u8], hi: &[u8]) -> Plan
     let n = joblist::jobs_of(list);
     let m = joblist::edges_of(list);
     let len = joblist::slots_of(list);
-    let arrival = words(list, 0, n);
-    let deadline = words(list, 2, n);
-    let clo = words(list, 4, n);
-    let chi = words(list, 6, n);
-    let level = levels(list, n);
-    let from = ends(list, 0, n, m);
-    let to = ends(list, 1, n, m);
-    let low = table(lo, len);
-    let high = table(hi, len);
+    let jobs = numbers(list, n);
+    let edges = ends(list, n, m);
+    let both = tables(lo, hi, len);
     Plan {
-        len: len as u16,
-        n: n as u16,
-        m: m as u16,
-        arrival: arrival,
-        deadline: deadline,
-        clo: clo,
-        chi: chi,
-        level: level,
-        from: from,
-        to: to,
-        lo: low,
-        hi: high,
+        counts: Counts {
+            len: len as u16,
+            n: n as u16,
+            m: m as u16,
+        },
+        jobs: jobs,
+        edges: edges,
+        tables: both,
     }
 }
 

@@ -19,7 +19,7 @@ use Rattle.machine.specs.declared.head.Head.{Head}
 use Rattle.machine.specs.declared.plan.Plan.{Plan}
 use Rattle.machine.specs.Marks.{isSet}
 use Rattle.machine.specs.Plan.{fromOf, loAt, hiAt}
-use Rattle.machine.specs.Run.{Run, withHead, withSlot, withLast}
+use Rattle.machine.specs.Run.{Run, withHead, withSlot}
 use Rattle.machine.specs.Scan.{sizesOk, byteOk, slotOk, tablesOk, edgesOk, unitsOk, namedIn}
 use Rattle.machine.specs.Tick.{difference}
 use Rattle.machine.specs.Machine.{planOk, runOk, soundOn, bookJob, bookOf, openFrameOf, moveOf}
@@ -120,7 +120,7 @@ module _ (lim : Limits) where
   move-slot len r t l = by-test (ltb (r .head .slot + 1) len) refl
     where
       by-test : (b : Bool) → ltb (r .head .slot + 1) len ≡ b
-          → pick b (withHead r (withLast (withSlot (r .head) (r .head .slot + 1)) t)) (openFrameOf lim (withHead r (withLast (r .head) t))) .head .slot < len
+          → pick b (withHead r (withSlot (r .head) (r .head .slot + 1))) (openFrameOf lim r) .head .slot < len
       by-test true e = ltb-true _ _ e
       by-test false e = l
 

@@ -19,7 +19,7 @@ use Rattle.machine.specs.Marks.{isSet}
 use Rattle.machine.specs.Numbers.{haltsOf}
 use Rattle.machine.specs.Run.{Run, joined, withHalted}
 use Rattle.machine.specs.Scan.{namedIn, choiceIn}
-use Rattle.machine.specs.Machine.{Ran, ran, says, need, _⨾_, soundOn, liveTest, orderedHead, refusedHead, refusedOf, bookOf, moveOf, orderOf, testOf, nextOf, answerOf, stepOn}
+use Rattle.machine.specs.Machine.{Ran, ran, says, need, _⨾_, soundOn, liveTest, orderedHead, refusedHead, refusedRun, bookOf, moveOf, orderOf, testOf, nextOf, answerOf, stepOn}
 
 -- a test that fails refuses, and one that holds is passed over
 pub stops : (b : Bool) (w : Why) (t : Test) → b ≡ false → need b w ⨾ t ≡ Refuse w
@@ -67,7 +67,7 @@ module _ (lim : Limits) (p : Plan) (h : Head) (us ds cs : List ℕ) (tick : ℕ)
   r = joined h us ds cs
 
   -- a refused head is a refused run
-  refused-ran : (w : Why) (t : Turned) → t ≡ refusedHead w h → ran t us ds cs ≡ says (No w) (refusedOf w r)
+  refused-ran : (w : Why) (t : Turned) → t ≡ refusedHead w h → ran t us ds cs ≡ says (No w) (refusedRun w r)
   refused-ran w t q =
       ap (λ (x : Turned). ran x us ds cs) q
       ∙ ap (says (No w)) (sym (pick-map (λ (x : Head). joined x us ds cs) (haltsOf w) (withHalted h 1) h refl refl))

@@ -64,12 +64,16 @@ orderedHead h x = record { answer = Order x; head = withOrdered h x }
 abbrev pub refusedHead : Why → Head → Turned
 refusedHead w h = record { answer = No w; head = pick (haltsOf w) (withHalted h 1) h }
 
+-- a run that takes a tick
+abbrev pub takes : Run → ℕ → Run
+takes r tick = withHead r (withLast (r .head) tick)
+
 -- what a refusal leaves of a run
 abbrev pub haltOf : Run → Run
 haltOf r = withHead r (withHalted (r .head) 1)
 
-abbrev pub refusedOf : Why → Run → Run
-refusedOf w r = pick (haltsOf w) (haltOf r) r
+abbrev pub refusedRun : Why → Run → Run
+refusedRun w r = pick (haltsOf w) (haltOf r) r
 
 module _ (lim : Limits) where
   -- 37, the plan's part: L, n and m, the tables, the edges, and the jobs' levels and budgets
@@ -128,9 +132,7 @@ module _ (lim : Limits) where
   -- the tick is taken: the next slot, or after slot L-1 the next frame
   unfoldable pub moveOf : ℕ → Run → ℕ → Run
   moveOf len r tick =
-      pick (ltb (r .head .slot + 1) len)
-      (withHead r (withLast (withSlot (r .head) (r .head .slot + 1)) tick))
-      (openFrameOf (withHead r (withLast (r .head) tick)))
+      takes (pick (ltb (r .head .slot + 1) len) (withHead r (withSlot (r .head) (r .head .slot + 1))) (openFrameOf r)) tick
 
   -- at opening, nothing has run
   unfoldable pub freshRun : ℕ → ℕ → Run
@@ -159,7 +161,7 @@ module _ (lim : Limits) where
     -- the next slot, or a refusal
     unfoldable pub answerOf : Run → ℕ → Bool → Test → Ran
     answerOf r tick e Pass = nextOf r tick e
-    answerOf r tick e (Refuse w) = says (No w) (refusedOf w r)
+    answerOf r tick e (Refuse w) = says (No w) (refusedRun w r)
 
     unfoldable pub stepOn : Run → ℕ → Bool → Ran
     stepOn r tick e = answerOf r tick e (testOf r tick e)

@@ -1,4 +1,4 @@
--- `fields` meets its contract: each array is the definition's.
+-- `fields` meets its contract: the fields of a plan are read where they stand.
 -- Assumes nothing.
 use borrow.Author.Needs.{needs}
 use Rattle.dispatch.proofs.Opened.{fields-are}
@@ -14,45 +14,26 @@ edges-of-requires c κs = search needs
 slots-of-requires : tie.Need-slots-of-requires
 slots-of-requires c κs = search needs
 
-words-requires : tie.Need-words-requires
-words-requires c κs = search needs
-
-words-requires-2 : tie.Need-words-requires-2
-words-requires-2 c κs = search needs
-
-words-requires-3 : tie.Need-words-requires-3
-words-requires-3 c κs = search needs
-
-words-requires-4 : tie.Need-words-requires-4
-words-requires-4 c κs = search needs
-
-levels-requires : tie.Need-levels-requires
-levels-requires c κs = search needs
+numbers-requires : tie.Need-numbers-requires
+numbers-requires c κs = search needs
 
 ends-requires : tie.Need-ends-requires
 ends-requires c κs = search needs
 
-ends-requires-2 : tie.Need-ends-requires-2
-ends-requires-2 c κs = search needs
+tables-requires : tie.Need-tables-requires
+tables-requires c κs = search needs
 
-table-requires : tie.Need-table-requires
-table-requires c κs = search needs
+cast-t10 : tie.Need-cast-t10
+cast-t10 c = search needs
 
-table-requires-2 : tie.Need-table-requires-2
-table-requires-2 c κs = search needs
+cast-t11 : tie.Need-cast-t11
+cast-t11 c = search needs
 
-cast-t16 : tie.Need-cast-t16
-cast-t16 c = search needs
-
-cast-t17 : tie.Need-cast-t17
-cast-t17 c = search needs
-
-cast-t18 : tie.Need-cast-t18
-cast-t18 c = search needs
+cast-t12 : tie.Need-cast-t12
+cast-t12 c = search needs
 
 returns : tie.Need-returns
-returns c = fields-are _ _ _ _ _ _ _ _ _ _ _ _ _ _ _ (c .before .before .before .before .before .before .before .before .before .slots-of .ensures .0) (c .before .before .before .before .before .before .before .before .before .before .before .jobs-of .ensures .0) (c .before .before .before .before .before .before .before .before .before .before .edges-of .ensures .0)
-    (c .before .before .before .before .before .before .before .before .words .ensures) (c .before .before .before .before .before .before .before .words2 .ensures) (c .before .before .before .before .before .before .words3 .ensures) (c .before .before .before .before .before .words4 .ensures) (c .before .before .before .before .levels .ensures) (c .before .before .before .ends .ensures) (c .before .before .ends2 .ensures) (c .before .table .ensures) (c .table2 .ensures)
+returns c = fields-are _ _ _ _ _ _ _ _ _ (c .before .before .before .slots-of .ensures .0) (c .before .before .before .before .before .jobs-of .ensures .0) (c .before .before .before .before .edges-of .ensures .0) (c .before .before .numbers .ensures) (c .before .ends .ensures) (c .tables .ensures)
 
 pub fields-spec : {M : Type 1} → statement M
 fields-spec =
@@ -61,16 +42,10 @@ fields-spec =
     jobs-of-requires
     edges-of-requires
     slots-of-requires
-    words-requires
-    words-requires-2
-    words-requires-3
-    words-requires-4
-    levels-requires
+    numbers-requires
     ends-requires
-    ends-requires-2
-    table-requires
-    table-requires-2
-    cast-t16
-    cast-t17
-    cast-t18
+    tables-requires
+    cast-t10
+    cast-t11
+    cast-t12
     returns)
