@@ -1,6 +1,7 @@
 -- The answer of each call, by the called crate's own number and place.
 -- Assumes nothing.
 use Prim.Native.Nat.{ℕ}
+use mathlib.Core.List.{List}
 use Rattle.verdict.specs.Numbers.{answerNumber}
 use Rattle.verdict.specs.declared.Verdict.{Verdict}
 use Rattle.planfile.specs.Numbers.{readNumber, readPlace, wroteNumber, wrotePlace}
@@ -12,15 +13,17 @@ use Rattle.planfile.specs.declared.Wrote.the-variants.{Bytes, No as Unwritten}
 use Rattle.merge.specs.Numbers.{builtNumber, builtPlace}
 use Rattle.merge.specs.declared.Built.{Built}
 use Rattle.merge.specs.declared.Built.the-variants.{Plan as BuiltPlan, No as Unbuilt}
-use Rattle.dispatch.specs.Numbers.{answerNumber as stepNumber, answerPlace as stepPlace}
-use Rattle.dispatch.specs.declared.answer.Answer.{Answer as StepAnswer}
-use Rattle.dispatch.specs.declared.answer.Answer.the-variants.{Order, No as NoOrder}
+use Rattle.machine.specs.Numbers.{answerNumber as stepNumber, answerPlace as stepPlace}
+use Rattle.machine.specs.declared.answer.Answer.{Answer as StepAnswer}
+use Rattle.machine.specs.declared.answer.Answer.the-variants.{Order, No as NoOrder}
 use Rattle.dispatch.specs.declared.open.Opened.{Opened}
 use Rattle.dispatch.specs.declared.state.State.{State}
-use Rattle.dispatch.specs.declared.state.Stepped.{Stepped}
+use Rattle.machine.specs.Run.{Run, joined}
+use Rattle.machine.specs.Machine.{Ran}
 use Rattle.hut.specs.declared.Answer.{Answer}
 use Rattle.hut.specs.declared.ReadResult.{ReadResult}
 use Rattle.hut.specs.declared.Running.{Running}
+use Rattle.hut.specs.declared.Moved.{Moved}
 use Rattle.hut.specs.Answer.{absent, listPlace, spotPlace, verdictPlace, buildPlace, says}
 
 -- the check
@@ -69,11 +72,18 @@ stepAnswer a = record { number = stepNumber a; place = listPlace (stepPlace a); 
 
 -- an answer beside a state
 abbrev pub beside : Answer → State → Running
-beside a s = record { answer = a; state = s }
+beside a s = record { answer = a; state = s; rest = 0 }
 
--- a step's answer beside the state that it leaves
-unfoldable pub running : Stepped → Running
-running s = beside (stepAnswer (s .answer)) (s .state)
+-- a step's answer, as C is handed it, beside the run that it leaves
+pub record Answered : Type 0 where
+  pub answer : Answer
+  pub run : Run
+
+abbrev pub moved : Moved → List ℕ → List ℕ → List ℕ → Answered
+moved r u d c = record { answer = r .answer; run = joined (r .head) u d c }
+
+unfoldable pub answered : Ran → Answered
+answered x = record { answer = stepAnswer (x .answer); run = x .run }
 
 -- opening: the reader's answer beside the state
 unfoldable pub opened : Opened → Running

@@ -5,8 +5,8 @@ ghost use Rattle.hut.specs.Calls.{checkAnswer, countsOf, readAnswer, rea
 use crate::Answer;
 use crate::Place;
 use crate::ReadResult;
-use dispatch::answer::answer_number;
-use dispatch::answer::answer_place;
+use machine::answer::answer_number;
+use machine::answer::answer_place;
 use merge::BuildPlace;
 use merge::Built;
 use planfile::ReadAnswer;
@@ -230,17 +230,17 @@ pub(crate) fn build_answer(b: Built) -> Answer
 }
 
 // The job ordered, or the idle mark.
-fn order_of(a: dispatch::answer::Answer) -> usize
+fn order_of(a: machine::answer::Answer) -> usize
     ensures { λ r. ⌜ r ≡ orderOf a ⌝ }
 {
     match a {
-        dispatch::answer::Answer::Order(j) => joblist::wide(j),
-        dispatch::answer::Answer::No(_) => Answer::ABSENT,
+        machine::answer::Answer::Order(j) => joblist::wide(j),
+        machine::answer::Answer::No(_) => Answer::ABSENT,
     }
 }
 
 // A step.
-pub(crate) fn step_answer(a: dispatch::answer::Answer) -> Answer
+pub(crate) fn step_answer(a: machine::answer::Answer) -> Answer
     ensures { λ r. ⌜ r ≡ stepAnswer a ⌝ }
 {
     Answer {

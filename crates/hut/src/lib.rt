@@ -5,11 +5,21 @@ ghost use Rattle.basics.specs.Limits.{firstEdition};
 ghost use Rattle.verdict.specs.Answer.{checkOf};
 ghost use Rattle.planfile.specs.Answer.{readOf, writeOf, outAfter};
 ghost use Rattle.merge.specs.Build.{buildOf, outAfter as builtInto};
-ghost use Rattle.dispatch.specs.Marks.{isSet};
-ghost use Rattle.dispatch.specs.Machine.{stepOf};
+ghost use Rattle.machine.specs.Marks.{isSet};
+ghost use Rattle.machine.specs.Plan.{planWith};
+ghost use Rattle.machine.specs.Run.{joined};
+ghost use Rattle.machine.specs.Machine.{stepOn};
+ghost use Rattle.dispatch.specs.State.{stepOf};
 ghost use Rattle.dispatch.specs.Open.{openOf};
-ghost use Rattle.hut.specs.Calls.{checkAnswer, readResult, writeAnswer, buildAnswer, stepAnswer, running, opened};
+ghost use Rattle.hut.specs.Calls.{checkAnswer, readResult, writeAnswer, buildAnswer, stepAnswer, moved, answered, opened};
 use dispatch::state::State;
+use joblist::MOST_JOBS;
+use machine::head::Head;
+use machine::plan::Counts;
+use machine::plan::ENDS;
+use machine::plan::ENTRIES;
+use machine::plan::JOBS;
+use machine::step;
 
 mod answers;
 
@@ -42,11 +52,19 @@ pub struct ReadResult {
     pub slots: usize,
 }
 
-// An answer beside a dispatcher's state.
+// An answer beside a dispatcher's state. The last field is 0: it stands where C would pad.
 #[repr(C)]
 pub struct Running {
     pub answer: Answer,
     pub state: State,
+    pub rest: u16,
+}
+
+// A step's answer beside the head that it leaves.
+#[repr(C)]
+pub struct Moved {
+    pub answer: Answer,
+    pub head: Head,
 }
 
 impl Answer {
@@ -99,28 +117,62 @@ pub extern "C" fn hut_open(plan: &[u8], first: u16) -> Running
     Running {
         answer: answers::read_answer(a),
         state: state,
+        rest: 0,
     }
 }
 
-// Inner: one step of a state by value. An end is signalled by any mark but 0.
-pub fn step_value(s: State, tick: u16, ended: u8) -> Running
-    ensures { λ r. ⌜ r ≡ running (stepOf firstEdition s tick (isSet ended)) ⌝ }
+// Inner: one step over a state's parts, its arrays lent and its head by value. An end is signalled by any mark but 0.
+pub fn step_parts<'a, 'b>(
+    counts: Counts,
+    jobs: &'a [u16; JOBS],
+    edges: &'a [u8; ENDS],
+    tables: &'a [u8; ENTRIES],
+    head: Head,
+    units: &'b mut [u16; MOST_JOBS],
+    done: &'b mut [u8; MOST_JOBS],
+    cut: &'b mut [u8; MOST_JOBS],
+    tick: u16,
+    ended: u8,
+) -> Moved
+    ensures { λ r. ⌜ moved r (now (units .exit)) (now (done .exit)) (now (cut .exit)) ≡ answered (stepOn firstEdition (planWith counts (now (jobs .entry)) (now (edges .entry)) (now (tables .entry))) (joined head (now (units .entry)) (now (done .entry)) (now (cut .entry))) tick (isSet ended)) ⌝ }
 {
-    let t = s.step(tick, ended != 0);
+    let t = step::step(
+        counts,
+        jobs,
+        edges,
+        tables,
+        head,
+        units,
+        done,
+        cut,
+        tick,
+        ended != 0,
+    );
     let a = t.answer;
-    let state = t.state;
-    Running {
+    let next = t.head;
+    Moved {
         answer: answers::step_answer(a),
-        state: state,
+        head: next,
     }
 }
 
-// One step of the state that C keeps.
+// One step of the state that C keeps, in its place: no array is copied.
 #[no_mangle]
 pub extern "C" fn hut_step(s: &mut State, tick: u16, ended: u8) -> Answer
     ensures { λ r. ⌜ (r ≡ stepAnswer (stepOf firstEdition (now (s .entry)) tick (isSet ended) .answer)) × (now (s .exit) ≡ stepOf firstEdition (now (s .entry)) tick (isSet ended) .state) ⌝ }
 {
-    let o = step_value(*s, tick, ended);
-    *s = o.state;
+    let o = step_parts(
+        s.plan.counts,
+        &s.plan.jobs,
+        &s.plan.edges,
+        &s.plan.tables,
+        s.head,
+        &mut s.units,
+        &mut s.done,
+        &mut s.cut,
+        tick,
+        ended,
+    );
+    s.head = o.head;
     o.answer
 }
