@@ -6,8 +6,8 @@ use crate::say::put_place;
 use crate::say::put_spot;
 use crate::say::put_verdict;
 use crate::show::put_state;
-use dispatch::answer::Answer;
 use dispatch::state::State;
+use machine::answer::Answer;
 use page::Page;
 use planfile::ReadAnswer;
 use requests::Decoded;
@@ -107,7 +107,7 @@ fn reply_open(page: Page, plan: &[u8], first: usize) -> Desk {
 fn put_order(page: Page, a: Answer) -> Page {
     match a {
         Answer::Order(j) => page.put(b" order=").number(j as usize),
-        Answer::No(w) => put_place(page, dispatch::answer::place_of(w)),
+        Answer::No(w) => put_place(page, machine::answer::place_of(w)),
     }
 }
 
@@ -115,7 +115,7 @@ fn reply_step(d: Desk, tick: usize, ended: usize) -> Desk {
     let r = call::step(d.state, tick, ended);
     let a = r.answer;
     let state = r.state;
-    let next = put_order(d.page.number(dispatch::answer::answer_number(a)), a);
+    let next = put_order(d.page.number(machine::answer::answer_number(a)), a);
     Desk {
         page: put_state(next, state),
         state: state,

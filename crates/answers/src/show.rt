@@ -65,21 +65,21 @@ fn put_rows(page: Page, s: State, n: usize) -> Page {
 
 fn put_values(page: Page, s: State) -> Page {
     let ticked = page.put(b" | slot=")
-        .number(wide(s.slot))
+        .number(wide(s.head.slot))
         .put(b" tick=")
-        .number(wide(s.last));
+        .number(wide(s.head.last));
     ticked
         .put(b" ordered=")
-        .number(s.ordered as usize)
+        .number(s.head.ordered as usize)
         .put(b" high=")
-        .number(mark(s.high))
+        .number(mark(s.head.high))
         .put(b" halted=")
-        .number(mark(s.halted))
+        .number(mark(s.head.halted))
 }
 
 // The state, to the end of its line. One without jobs, or with too many, has nothing to show.
 pub(crate) fn put_state(page: Page, s: State) -> Page {
-    let n = wide(s.plan.n);
+    let n = wide(s.plan.counts.n);
     if 0 < n {
         if n <= MOST_JOBS {
             return put_rows(put_values(page, s), s, n).end();

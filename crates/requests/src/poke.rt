@@ -1,10 +1,11 @@
 // One field of the dispatcher's state: set to any value that it can hold.
 use crate::fields::place_in;
-use dispatch::plan::Plan;
 use dispatch::state::State;
 use joblist::MOST_EDGES;
 use joblist::MOST_JOBS;
 use joblist::MOST_SLOTS;
+use machine::plan;
+use machine::plan::Plan;
 
 // The fields, numbered in the order of their names below: words, bytes, then what has a place for each job, edge and slot.
 const SLOT: usize = 0;
@@ -88,15 +89,23 @@ pub(crate) fn kind_of(f: usize) -> Kind {
     }
 }
 
-// A plan's values by job.
-fn poke_job(mut plan: Plan, f: usize, i: usize, w: u16, b: u8) -> Plan {
+// Which of a job's numbers a field is.
+fn number_of(f: usize) -> usize {
+    match f {
+        ARRIVAL => plan::ARRIVAL,
+        DEADLINE => plan::DEADLINE,
+        CLO => plan::CLO,
+        CHI => plan::CHI,
+        _ => plan::LEVEL,
+    }
+}
+
+// A plan's numbers by job.
+fn poke_job(mut plan: Plan, f: usize, i: usize, w: u16) -> Plan {
+    let k = number_of(f);
     if i < MOST_JOBS {
-        match f {
-            ARRIVAL => plan.arrival[i] = w,
-            DEADLINE => plan.deadline[i] = w,
-            CLO => plan.clo[i] = w,
-            CHI => plan.chi[i] = w,
-            _ => plan.level[i] = b,
+        if k < plan::NUMBERS {
+            plan.jobs[plan::NUMBERS * i + k] = w;
         }
     }
     plan
@@ -106,8 +115,8 @@ fn poke_job(mut plan: Plan, f: usize, i: usize, w: u16, b: u8) -> Plan {
 fn poke_edge(mut plan: Plan, f: usize, i: usize, b: u8) -> Plan {
     if i < MOST_EDGES {
         match f {
-            FROM => plan.from[i] = b,
-            _ => plan.to[i] = b,
+            FROM => plan.edges[2 * i] = b,
+            _ => plan.edges[2 * i + 1] = b,
         }
     }
     plan
@@ -117,8 +126,8 @@ fn poke_edge(mut plan: Plan, f: usize, i: usize, b: u8) -> Plan {
 fn poke_table(mut plan: Plan, f: usize, i: usize, b: u8) -> Plan {
     if i < MOST_SLOTS {
         match f {
-            LO => plan.lo[i] = b,
-            _ => plan.hi[i] = b,
+            LO => plan.tables[i] = b,
+            _ => plan.tables[MOST_SLOTS + i] = b,
         }
     }
     plan
@@ -126,12 +135,12 @@ fn poke_table(mut plan: Plan, f: usize, i: usize, b: u8) -> Plan {
 
 fn poke_plan(mut plan: Plan, f: usize, i: usize, w: u16, b: u8) -> Plan {
     match f {
-        LENGTH => plan.len = w,
-        JOBS => plan.n = w,
-        EDGES => plan.m = w,
+        LENGTH => plan.counts.len = w,
+        JOBS => plan.counts.n = w,
+        EDGES => plan.counts.m = w,
         FROM | TO => plan = poke_edge(plan, f, i, b),
         LO | HI => plan = poke_table(plan, f, i, b),
-        _ => plan = poke_job(plan, f, i, w, b),
+        _ => plan = poke_job(plan, f, i, w),
     }
     plan
 }
@@ -153,11 +162,11 @@ pub fn poked(mut s: State, f: usize, i: usize, v: usize) -> State {
     let w = (v % 65536) as u16;
     let b = (v % 256) as u8;
     match f {
-        SLOT => s.slot = w,
-        TICK => s.last = w,
-        ORDERED => s.ordered = b,
-        HIGH => s.high = b,
-        HALTED => s.halted = b,
+        SLOT => s.head.slot = w,
+        TICK => s.head.last = w,
+        ORDERED => s.head.ordered = b,
+        HIGH => s.head.high = b,
+        HALTED => s.head.halted = b,
         UNITS | DONE | CUT => s = poke_row(s, f, i, w, b),
         _ => {
             let plan = poke_plan(s.plan, f, i, w, b);

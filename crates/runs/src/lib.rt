@@ -1,6 +1,4 @@
 // The dispatcher, tick by tick: over a text of ticks and marks, or over ticks made here.
-use dispatch::answer::Answer;
-use dispatch::answer::Why;
 use dispatch::state::State;
 use dispatch::state::Stepped;
 use files::Piece;
@@ -14,6 +12,8 @@ use jobtext::line::bare;
 use jobtext::line::number;
 use jobtext::line::word;
 use jobtext::list;
+use machine::answer::Answer;
+use machine::answer::Why;
 use page::Page;
 use page::after;
 use page::less;
@@ -81,7 +81,7 @@ impl Run {
 
     // After a step: a frame begins at slot 0.
     fn stepped(mut self, state: State, page: Page) -> Self {
-        if state.slot == 0 {
+        if state.head.slot == 0 {
             self.frame = after(self.frame);
         }
         self.state = state;
@@ -148,9 +148,9 @@ fn put_order(page: Page, names: Names, j: usize) -> Page {
 }
 
 fn put_refusal(page: Page, names: Names, w: Why) -> Page {
-    let number = dispatch::answer::number_of(w);
+    let number = machine::answer::number_of(w);
     let to = words::meaning(page.put(b"no: ").number(number).put(b", "), number);
-    let Place::AtJob(j) = dispatch::answer::place_of(w) else {
+    let Place::AtJob(j) = machine::answer::place_of(w) else {
         return to;
     };
     names.put(to.put(b": "), j)
@@ -174,7 +174,7 @@ fn step(run: Run, plan: &[u8], names: Names, tick: u16, ended: bool) -> Run {
     let state = r.state;
     let page = run.page;
     let marked = put_mark(page.put(b"tick ").number_right(tick as usize, 5), ended);
-    let said = put_answer(marked, names, answer, state.slot as usize, state.high);
+    let said = put_answer(marked, names, answer, state.head.slot as usize, state.head.high);
     run.stepped(state, said.end())
 }
 
@@ -297,7 +297,7 @@ fn wants(plan: &[u8], j: usize, frame: usize) -> usize {
 
 // Whether the job ordered last has ended.
 fn ends(plan: &[u8], state: State, frame: usize) -> bool {
-    let j = state.ordered as usize;
+    let j = state.head.ordered as usize;
     if MOST_JOBS <= j {
         return false;
     }
