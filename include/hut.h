@@ -35,8 +35,14 @@ extern "C" {
 #define HUT_LIST_BYTES(n, m) (8 + 10 * (size_t)(n) + 2 * (size_t)(m))
 #define HUT_MOST_PLAN_BYTES 3216
 
-/* The stack to leave for a call. Not proved: tests/hut/stack.c measures each call at the largest size. */
-#define HUT_STACK_BYTES 40960
+/* The stack to leave for each call. Not proved: tests/hut/stack.c measures each call on a list of the most jobs and
+ * slots, on each processor, less what a thread takes that does nothing. A step's does not grow with the sizes. */
+#define HUT_STACK_BUILD 24576
+#define HUT_STACK_CHECK 12288
+#define HUT_STACK_READ 12288
+#define HUT_STACK_WRITE 12288
+#define HUT_STACK_OPEN 20480
+#define HUT_STACK_STEP 512
 
 /* Where an answer of no stands. Each field is HUT_ABSENT where the number below does not name it. */
 struct hut_place {
@@ -102,15 +108,16 @@ struct hut_read_result {
 
 /* The dispatcher's state. It is opaque: nothing in it is for the caller to read or set. It has this many
  * bytes, holds no pointer, and may be copied, kept and put back as bytes. */
-#define HUT_STATE_BYTES 3406
+#define HUT_STATE_BYTES 3470
 struct hut_state {
     uint16_t opaque[HUT_STATE_BYTES / 2];
 };
 
-/* What hut_open answers, and the state to keep. */
+/* What hut_open answers, and the state to keep. The last field is 0, so that every byte of it is settled. */
 struct hut_running {
     struct hut_answer answer;
     struct hut_state state;
+    uint16_t rest;
 };
 
 /* Makes the two tables of a list by the merge method, and puts the plan at the front of `out`.

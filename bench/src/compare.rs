@@ -7,7 +7,7 @@ use crate::named::{Named, MOST_PLAN_BYTES};
 use crate::plain::build::build;
 use crate::plain::check::check;
 use crate::plain::dispatch::step;
-use crate::state::State;
+use crate::held::Held;
 
 const STEPS: usize = 10_000;
 
@@ -44,13 +44,13 @@ fn same<T: PartialEq + std::fmt::Debug>(
 }
 
 /// Each answer, and each state whole.
-fn steps(named: &Named, opened: &State, ends: Ends) -> Result<(), String> {
-    let (mut proved, mut plain) = (opened.clone(), opened.clone());
+fn steps(named: &Named, opened: &Held, ends: Ends) -> Result<(), String> {
+    let (mut proved, mut plain) = (opened.clone(), opened.plain());
     for _ in 0..STEPS {
         let (tick, mark) = (plain.tick.wrapping_add(1), ends.mark(&plain));
         let answer = step(&mut plain, tick, mark);
         same(named, "step", hut::step(&mut proved, tick, mark), answer)?;
-        if proved != plain {
+        if proved.plain() != plain {
             return Err(format!("{}, step: the states differ after tick {tick}", named.name));
         }
     }

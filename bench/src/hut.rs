@@ -1,12 +1,13 @@
 //! The proved calls, as include/hut.h has them.
 
 use crate::answer::Answer;
-use crate::state::State;
+use crate::held::Held;
 
 #[repr(C)]
 struct Running {
     answer: Answer,
-    state: State,
+    state: Held,
+    rest: u16,
 }
 
 #[link(name = "hut", kind = "static")]
@@ -21,7 +22,7 @@ extern "C" {
     ) -> Answer;
     fn hut_build(list: *const u8, list_bytes: usize, out: *mut u8, out_bytes: usize) -> Answer;
     fn hut_open(plan: *const u8, plan_bytes: usize, first: u16) -> Running;
-    fn hut_step(state: *mut State, tick: u16, ended: u8) -> Answer;
+    fn hut_step(state: *mut Held, tick: u16, ended: u8) -> Answer;
 }
 
 pub fn check(list: &[u8], lo: &[u8], hi: &[u8]) -> Answer {
@@ -35,13 +36,13 @@ pub fn build(list: &[u8], out: &mut [u8]) -> Answer {
     unsafe { hut_build(list.as_ptr(), list.len(), out.as_mut_ptr(), out.len()) }
 }
 
-pub fn open(plan: &[u8], first: u16) -> (Answer, State) {
+pub fn open(plan: &[u8], first: u16) -> (Answer, Held) {
     // SAFETY: as above; any bytes are a state.
     let running = unsafe { hut_open(plan.as_ptr(), plan.len(), first) };
     (running.answer, running.state)
 }
 
-pub fn step(state: &mut State, tick: u16, ended: bool) -> Answer {
+pub fn step(state: &mut Held, tick: u16, ended: bool) -> Answer {
     // SAFETY: as above; the state is lent alone.
     unsafe { hut_step(state, tick, u8::from(ended)) }
 }

@@ -7,6 +7,7 @@ use std::process::ExitCode;
 mod answer;
 mod compare;
 mod frame;
+mod held;
 mod hut;
 mod named;
 mod plain;
@@ -27,7 +28,7 @@ mod state;
 use answer::Answer;
 use frame::{Ends, Frame};
 use named::{Named, MOST_PLAN_BYTES};
-use state::State;
+use held::Held;
 use timing::Timed;
 
 fn main() -> ExitCode {
@@ -51,7 +52,7 @@ fn time(named: &Named) {
     if let Some(plan) = &named.plan {
         row(named, "build", build(named));
         let (_, state) = hut::open(plan, 0);
-        let frame = |ends| Frame::of(&state, named.lo.len(), ends);
+        let frame = |ends| Frame::of(&state.plain(), named.lo.len(), ends);
         row(named, "step, ends at CLO", steps(&frame(Ends::Ordinary)));
         row(named, "step, fewest ends", steps(&frame(Ends::Fewest)));
     }
@@ -79,17 +80,23 @@ fn build(named: &Named) -> Timed {
 
 fn steps(frame: &Frame) -> Timed {
     let marks = &frame.marks;
-    let with = |call: fn(&mut State, u16, bool) -> Answer| {
-        let mut state = frame.state.clone();
-        let mut tick = state.tick;
-        move || {
-            for &mark in marks {
-                tick = tick.wrapping_add(1);
-                black_box(call(&mut state, tick, mark));
-            }
+    let held = over(marks, frame.state.tick, Held::of(&frame.state), hut::step);
+    let plain = over(marks, frame.state.tick, frame.state.clone(), plain::dispatch::step);
+    timing::pair(held, plain).each(marks.len())
+}
+
+/// The steps of a frame, on either kind of state.
+fn over<S>(marks: &[bool], first: u16, mut state: S, call: fn(&mut S, u16, bool) -> Answer) -> impl FnMut() + '_
+where
+    S: 'static,
+{
+    let mut tick = first;
+    move || {
+        for &mark in marks {
+            tick = tick.wrapping_add(1);
+            black_box(call(&mut state, tick, mark));
         }
-    };
-    timing::pair(with(hut::step), with(plain::dispatch::step)).each(marks.len())
+    }
 }
 
 fn row(named: &Named, call: &str, timed: Timed) {

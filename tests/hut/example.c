@@ -5,15 +5,16 @@
 #include <stdio.h>
 #include <string.h>
 
-/* What the proved side has: nine numbers of 8 bytes in an answer; in a state three 16-bit sizes, four tables
- * of 64 words, 64 levels, two ends of 256 edges, two tables of 1024 slots, two words, three bytes, one byte
- * of padding, 64 counts and two times 64 marks. */
+/* What the proved side has: nine numbers of 8 bytes in an answer; in a state three 16-bit counts, five numbers
+ * of 64 jobs, two ends of 256 edges, two tables of 1024 slots, two words and four bytes, 64 counts of units and
+ * two times 64 marks. No struct has padding: each size is the sum of its fields'. */
 _Static_assert(sizeof(size_t) == 8, "a size has 64 bits in the archive");
 _Static_assert(sizeof(struct hut_answer) == 9 * 8, "an answer");
 _Static_assert(sizeof(struct hut_read_result) == 12 * 8, "what reading answers");
-_Static_assert(sizeof(struct hut_state) == 6 + 4 * 128 + 64 + 2 * 256 + 2 * 1024 + 4 + 3 + 1 + 128 + 2 * 64, "a state");
+_Static_assert(sizeof(struct hut_state) == 3 * 2 + 5 * 64 * 2 + 2 * 256 + 2 * 1024 + 2 * 2 + 4 + 64 * 2 + 2 * 64, "a state");
 _Static_assert(sizeof(struct hut_state) == HUT_STATE_BYTES, "a state has its bytes and no more");
 _Static_assert(offsetof(struct hut_running, state) == sizeof(struct hut_answer), "the state follows the answer");
+_Static_assert(sizeof(struct hut_running) == sizeof(struct hut_answer) + HUT_STATE_BYTES + sizeof(uint16_t), "what opening hands back");
 
 static int passed, failed;
 
@@ -243,10 +244,16 @@ static void the_state(void)
     struct guarded g;
     memset(&g, 0xFF, sizeof g);
     expect("a state of any bytes has an answer", bare(hut_step(&g.state, 0, 0), 37));
-    g.state = hut_open(plan_a, sizeof plan_a, 0).state;
+    expect("and keeps them all", all(&g.state, 0, HUT_STATE_BYTES, 0xFF));
+    o = hut_open(plan_a, sizeof plan_a, 0);
+    expect("an open settles its last bytes", o.rest == 0);
+    g.state = o.state;
     ((uint8_t *)&g.state)[HUT_STATE_BYTES - 1] = 7;
     hut_step(&g.state, 0, 0);
     expect("a frame opens fresh to the state's last byte", ((uint8_t *)&g.state)[HUT_STATE_BYTES - 1] == 0);
+    const struct hut_state was = g.state;
+    expect("a refused step", bare(hut_step(&g.state, 0, 0), 30));
+    expect("keeps every byte", memcmp(&was, &g.state, sizeof was) == 0);
     expect("no byte around a state is touched", all(g.before, 0, 64, 0xFF) && all(g.after, 0, 64, 0xFF));
 }
 

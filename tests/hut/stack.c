@@ -1,5 +1,6 @@
 /* How much stack each call takes on the longest frame with the most jobs: each runs on a stack of its own that
- * was filled with one byte, and the part where that byte is gone was used. The last line counts. */
+ * was filled with one byte, and the part where that byte is gone was used. What a thread takes that calls nothing is
+ * taken off. The last line counts. */
 #define _POSIX_C_SOURCE 200809L
 #include "hut.h"
 
@@ -12,7 +13,7 @@ enum { ROOM = 1 << 20, FILL = 0xA5, JOBS = 64, SLOTS = 1024, MOST_EDGES = 256 };
 
 static uint8_t list[HUT_LIST_BYTES(JOBS, MOST_EDGES)], plan[HUT_MOST_PLAN_BYTES], out[HUT_MOST_PLAN_BYTES];
 static size_t list_bytes, plan_bytes;
-static struct hut_state state;
+static struct hut_running running;
 
 static struct hut_answer build(void) { return hut_build(list, list_bytes, out, sizeof out); }
 static struct hut_answer check(void)
@@ -28,16 +29,30 @@ static struct hut_answer write_plan(void)
 }
 static struct hut_answer open_plan(void)
 {
-    struct hut_running r = hut_open(plan, plan_bytes, 0);
-    state = r.state;
-    return r.answer;
+    running = hut_open(plan, plan_bytes, 0);
+    return running.answer;
 }
-static struct hut_answer step(void) { return hut_step(&state, 0, 0); }
+static struct hut_answer step(void) { return hut_step(&running.state, 0, 0); }
+
+static struct hut_answer nothing(void)
+{
+    const struct hut_answer yes = {.number = 0};
+    return yes;
+}
 
 static const struct {
     const char *name;
     struct hut_answer (*call)(void);
-} calls[] = {{"build", build}, {"check", check}, {"read", read_plan}, {"write", write_plan}, {"open", open_plan}, {"step", step}};
+    size_t most;
+} calls[] = {
+    {"nothing", nothing, ROOM},
+    {"hut_build", build, HUT_STACK_BUILD},
+    {"hut_check", check, HUT_STACK_CHECK},
+    {"hut_read", read_plan, HUT_STACK_READ},
+    {"hut_write", write_plan, HUT_STACK_WRITE},
+    {"hut_open", open_plan, HUT_STACK_OPEN},
+    {"hut_step", step, HUT_STACK_STEP},
+};
 
 /* 64 high jobs with all the time there is, each before the next four: 246 edges. */
 static void put_list(void)
@@ -93,15 +108,16 @@ int main(void)
     int passed = 0, failed = 0;
     put_list();
     plan_bytes = hut_build(list, list_bytes, plan, sizeof plan).length;
-    for (size_t k = 0; k < sizeof calls / sizeof *calls; k++) {
-        const size_t bytes = taken(k);
-        if (bytes <= HUT_STACK_BYTES) {
+    const size_t own = taken(0);
+    for (size_t k = 1; k < sizeof calls / sizeof *calls; k++) {
+        const size_t all = taken(k), bytes = all > own ? all - own : 0;
+        if (bytes <= calls[k].most) {
             passed++;
         } else {
             failed++;
             printf("FAILED: ");
         }
-        printf("hut_%s takes %zu bytes of stack\n", calls[k].name, bytes);
+        printf("%s takes %zu bytes of stack, of %zu\n", calls[k].name, bytes, calls[k].most);
     }
     printf("%d passed, %d failed\n", passed, failed);
     return failed != 0;

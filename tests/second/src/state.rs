@@ -3,8 +3,7 @@
 use crate::limits::{IDLE, MOST_EDGES, MOST_JOBS, MOST_SLOTS, MOST_UNITS};
 use crate::refusal::Refusal;
 
-/// Everything a step looks at, in the order of `struct hut_state`. Marks are bytes: 0 is clear, anything else is set.
-#[repr(C)]
+/// Everything a step looks at. Marks are bytes: 0 is clear, anything else is set.
 #[derive(Clone, PartialEq)]
 pub struct State {
     pub l: u16,
