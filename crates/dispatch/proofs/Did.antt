@@ -10,15 +10,15 @@ use Rattle.basics.specs.Limits.{Limits}
 use Rattle.basics.specs.Marks.{idle}
 use Rattle.basics.proofs.Choice.{pick-true, pick-false, pick-both}
 use Rattle.machine.specs.Run.{Run}
-use Rattle.machine.specs.declared.plan.Plan.{Plan}
+use Rattle.parts.specs.declared.plan.Plan.{Plan}
 use Rattle.machine.specs.declared.answer.Answer.the-variants.{No}
 use Rattle.machine.specs.declared.answer.Why.{Why}
 use Rattle.machine.specs.declared.answer.Why.the-variants.{BadState, Halted, SameTick, StaleTick, TicksLost, NoJob, PastHigh}
 use Rattle.machine.specs.declared.tick.Tick.{Tick}
 use Rattle.machine.specs.declared.tick.Tick.the-variants.{Next, Same, Lost, Stale}
-use Rattle.machine.specs.Marks.{isSet}
+use Rattle.parts.specs.Marks.{isSet}
 use Rattle.machine.specs.Numbers.{haltsOf}
-use Rattle.machine.specs.Scan.{pastHigh}
+use Rattle.parts.specs.Scan.{pastHigh}
 use Rattle.machine.specs.Tick.{tickOf}
 use Rattle.machine.specs.Machine.{Ran, says, need, _⨾_, tickTest, haltOf, refusedRun, soundOn, endTest, liveTest, bookJob, bookOf, moveOf, orderOf, testOf, nextOf, answerOf, stepOn}
 

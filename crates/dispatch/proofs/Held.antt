@@ -12,11 +12,11 @@ use Rattle.basics.specs.Choice.{pick}
 use Rattle.basics.specs.Limits.{firstEdition}
 use Rattle.basics.proofs.Choice.{pick-both}
 use Rattle.machine.specs.Run.{Run, withHead, withSlot}
-use Rattle.machine.specs.declared.plan.Plan.{Plan}
+use Rattle.parts.specs.declared.plan.Plan.{Plan}
 use Rattle.dispatch.specs.declared.state.State.{State}
 use Rattle.dispatch.specs.declared.state.Stepped.{Stepped}
 use Rattle.machine.specs.declared.answer.Answer.{Answer}
-use Rattle.machine.specs.Scan.{bump, namedIn, choiceIn}
+use Rattle.parts.specs.Scan.{bump, namedIn, choiceIn}
 use Rattle.machine.specs.Machine.{Ran, takes, haltOf, bookJob, openFrameOf, moveOf, orderOf, stepOn}
 use Rattle.dispatch.specs.State.{runOf, stepOf}
 use Rattle.dispatch.specs.Runs.{Given, Each, answersBy, stateBy, answersOf, stateOf, Words, HeldPlan, HeldHead, HeldRun, Held}

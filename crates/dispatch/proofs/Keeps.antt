@@ -12,7 +12,7 @@ use Rattle.machine.specs.declared.answer.Answer.{Answer}
 use Rattle.machine.specs.declared.answer.Answer.the-variants.{No}
 use Rattle.machine.specs.declared.answer.Why.{Why}
 use Rattle.machine.specs.declared.answer.Why.the-variants.{Halted}
-use Rattle.machine.specs.Marks.{isSet}
+use Rattle.parts.specs.Marks.{isSet}
 use Rattle.machine.specs.Machine.{Ran, refusedRun, orderOf, stepOn}
 use Rattle.dispatch.specs.State.{runOf, stateWith, stateOk, stepOf}
 use Rattle.dispatch.specs.Runs.{Given, refusedOf, answersBy, stateBy, answersOf, stateOf}

@@ -33,8 +33,8 @@ use Rattle.planfile.proofs.Accepted.{read-yes, pair-yes}
 use Rattle.dispatch.specs.declared.state.State.{State}
 use Rattle.machine.specs.declared.answer.Answer.the-variants.{No as Refused}
 use Rattle.machine.specs.declared.answer.Why.the-variants.{BadState}
-use Rattle.machine.specs.Plan.{planWith, noPlan, numberIn, levelOf}
-use Rattle.machine.specs.Scan.{sizesOk, byteOk, slotOk, tablesOk, edgesOk, jobOk, jobsOk}
+use Rattle.parts.specs.Plan.{planWith, noPlan, numberIn, levelOf}
+use Rattle.parts.specs.Scan.{sizesOk, byteOk, slotOk, tablesOk, edgesOk, jobOk, jobsOk}
 use Rattle.dispatch.specs.Open.{entries, jobsOf, edgesOf, tablesOf, fieldsOf, JobFields, openOf}
 use Rattle.machine.specs.Machine.{planOk, soundOn}
 use Rattle.dispatch.specs.State.{runOf, beside, stateOk, freshOf, noState, stepOf}

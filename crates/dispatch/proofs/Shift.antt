@@ -9,7 +9,7 @@ use lib.Dec.{ltb}
 use Rattle.basics.specs.Choice.{pick}
 use Rattle.basics.specs.Limits.{Limits}
 use Rattle.machine.specs.Run.{Run, withHead, withSlot}
-use Rattle.machine.specs.declared.plan.Plan.{Plan}
+use Rattle.parts.specs.declared.plan.Plan.{Plan}
 use Rattle.dispatch.specs.declared.state.State.{State}
 use Rattle.machine.specs.declared.answer.Answer.{Answer}
 use Rattle.machine.specs.declared.answer.Answer.the-variants.{No}

@@ -15,13 +15,13 @@ use Rattle.basics.specs.Limits.{Limits}
 use Rattle.basics.proofs.Tests.{not-both}
 use Rattle.basics.proofs.Choice.{pick-both}
 use Rattle.machine.specs.Run.{Run, withHead, withSlot, freshHead}
-use Rattle.machine.specs.declared.plan.Plan.{Plan}
+use Rattle.parts.specs.declared.plan.Plan.{Plan}
 use Rattle.dispatch.specs.declared.state.State.{State}
 use Rattle.machine.specs.declared.answer.Answer.{Answer}
 use Rattle.machine.specs.declared.answer.Why.{Why}
 use Rattle.machine.specs.declared.answer.Why.the-variants.{BadState, Halted, SameTick, StaleTick, TicksLost, NoJob, PastHigh}
 use Rattle.machine.specs.declared.tick.Tick.the-variants.{Next}
-use Rattle.machine.specs.Marks.{isSet}
+use Rattle.parts.specs.Marks.{isSet}
 use Rattle.machine.specs.Tick.{difference, tickOf}
 use Rattle.machine.specs.Machine.{Ran, planOk, bookJob, openFrameOf, moveOf, freshRun, orderOf, stepOn}
 use Rattle.dispatch.specs.State.{runOf, stateWith, stateOk, freshOf, stepOf}

@@ -15,9 +15,9 @@ use Rattle.basics.proofs.Choice.{pick-both}
 use Rattle.basics.proofs.Below.{all-at, all-each}
 use Rattle.basics.specs.Marks.{idle}
 use Rattle.machine.specs.Run.{Run, withHead, withSlot, withLast, withHigh, freshHead}
-use Rattle.machine.specs.declared.plan.Plan.{Plan}
+use Rattle.parts.specs.declared.plan.Plan.{Plan}
 use Rattle.dispatch.specs.declared.state.State.{State}
-use Rattle.machine.specs.Scan.{byteOk, unitsOk, bump, choiceIn}
+use Rattle.parts.specs.Scan.{byteOk, unitsOk, bump, choiceIn}
 use Rattle.machine.specs.Machine.{Ran, takes, runOk, planOk, soundOn, bookJob, openFrameOf, moveOf, freshRun, orderOf, stepOn}
 use Rattle.dispatch.specs.State.{runOf, stateOk, freshOf, stepOf}
 use Rattle.machine.specs.Numbers.{answerNumber}

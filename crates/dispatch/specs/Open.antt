@@ -11,8 +11,8 @@ use Rattle.planfile.specs.Plan.{listOf, lowOf, highOf}
 use Rattle.planfile.specs.Answer.{readOf}
 use Rattle.planfile.specs.declared.ReadAnswer.{ReadAnswer}
 use Rattle.planfile.specs.declared.ReadAnswer.the-variants.{Plan as IsPlan, No}
-use Rattle.machine.specs.declared.plan.Plan.{Plan}
-use Rattle.machine.specs.Plan.{planWith, arrivalOf, deadlineOf, cloOf, chiOf, levelOf}
+use Rattle.parts.specs.declared.plan.Plan.{Plan}
+use Rattle.parts.specs.Plan.{planWith, arrivalOf, deadlineOf, cloOf, chiOf, levelOf}
 use Rattle.dispatch.specs.declared.state.State.{State}
 use Rattle.dispatch.specs.declared.open.Opened.{Opened}
 use Rattle.dispatch.specs.State.{freshOf, noState}

@@ -4,8 +4,8 @@ use Prim.Native.Nat.{ℕ}
 use mathlib.Core.Bool.{Bool}
 use lib.ListN.{replicate}
 use Rattle.basics.specs.Limits.{Limits}
-use Rattle.machine.specs.declared.plan.Plan.{Plan}
-use Rattle.machine.specs.Plan.{noPlan}
+use Rattle.parts.specs.declared.plan.Plan.{Plan}
+use Rattle.parts.specs.Plan.{noPlan}
 use Rattle.machine.specs.Run.{Run, joined, noHead}
 use Rattle.machine.specs.Machine.{Ran, soundOn, freshRun, stepOn}
 use Rattle.dispatch.specs.declared.state.State.{State}

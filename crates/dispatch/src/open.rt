@@ -11,12 +11,12 @@ use crate::state::State;
 use joblist::HEAD_BYTES;
 use joblist::JOB_BYTES;
 use joblist::MOST_SLOTS;
-use machine::plan::Counts;
-use machine::plan::ENDS;
-use machine::plan::ENTRIES;
-use machine::plan::JOBS;
-use machine::plan::NUMBERS;
-use machine::plan::Plan;
+use parts::plan::Counts;
+use parts::plan::ENDS;
+use parts::plan::ENTRIES;
+use parts::plan::JOBS;
+use parts::plan::NUMBERS;
+use parts::plan::Plan;
 use planfile::ReadAnswer;
 
 pub struct Opened {

@@ -5,8 +5,8 @@ ghost use Rattle.dispatch.specs.State.{freshOf, noState, stepOf};
 use joblist::MOST_JOBS;
 use machine::answer::Answer;
 use machine::head::Head;
-use machine::plan::Plan;
 use machine::step;
+use parts::plan::Plan;
 
 #[repr(C)]
 pub struct State {

@@ -5,8 +5,8 @@ ghost use Rattle.basics.specs.Limits.{firstEdition};
 ghost use Rattle.verdict.specs.Answer.{checkOf};
 ghost use Rattle.planfile.specs.Answer.{readOf, writeOf, outAfter};
 ghost use Rattle.merge.specs.Build.{buildOf, outAfter as builtInto};
-ghost use Rattle.machine.specs.Marks.{isSet};
-ghost use Rattle.machine.specs.Plan.{planWith};
+ghost use Rattle.parts.specs.Marks.{isSet};
+ghost use Rattle.parts.specs.Plan.{planWith};
 ghost use Rattle.machine.specs.Run.{joined};
 ghost use Rattle.machine.specs.Machine.{stepOn};
 ghost use Rattle.dispatch.specs.State.{stepOf};
@@ -15,11 +15,11 @@ ghost use Rattle.hut.specs.Calls.{checkAnswer, readResult, writeAnswer, 
 use dispatch::state::State;
 use joblist::MOST_JOBS;
 use machine::head::Head;
-use machine::plan::Counts;
-use machine::plan::ENDS;
-use machine::plan::ENTRIES;
-use machine::plan::JOBS;
 use machine::step;
+use parts::plan::Counts;
+use parts::plan::ENDS;
+use parts::plan::ENTRIES;
+use parts::plan::JOBS;
 
 mod answers;
 

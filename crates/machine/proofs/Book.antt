@@ -11,10 +11,10 @@ use Rattle.basics.specs.Limits.{Limits}
 use Rattle.basics.specs.Marks.{idle}
 use Rattle.basics.proofs.Choice.{pick-true, pick-false}
 use Rattle.machine.specs.declared.head.Head.{Head}
-use Rattle.machine.specs.Plan.{cloOf, levelOf}
+use Rattle.parts.specs.Plan.{cloOf, levelOf}
 use Rattle.machine.specs.Run.{Run, joined, withHigh}
 use Rattle.machine.specs.Machine.{unitsOf, bookJob, bookOf}
-use Rattle.machine.proofs.Marks.{mark-clear, mark-set}
+use Rattle.parts.proofs.Marks.{mark-clear, mark-set}
 
 pub joined-as : (h g : Head) (u d c : List ℕ) → h ≡ g → joined h u d c ≡ joined g u d c
 joined-as h g u d c q = ap (λ (x : Head). joined x u d c) q

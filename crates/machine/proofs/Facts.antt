@@ -16,11 +16,11 @@ use Rattle.basics.proofs.Tests.{and-left, and-right}
 use Rattle.basics.proofs.Below.{every, all-at}
 use Rattle.basics.specs.Marks.{idle}
 use Rattle.machine.specs.declared.head.Head.{Head}
-use Rattle.machine.specs.declared.plan.Plan.{Plan}
-use Rattle.machine.specs.Marks.{isSet}
-use Rattle.machine.specs.Plan.{fromOf, loAt, hiAt}
+use Rattle.parts.specs.declared.plan.Plan.{Plan}
+use Rattle.parts.specs.Marks.{isSet}
+use Rattle.parts.specs.Plan.{fromOf, loAt, hiAt}
 use Rattle.machine.specs.Run.{Run, withHead, withSlot}
-use Rattle.machine.specs.Scan.{sizesOk, byteOk, slotOk, tablesOk, edgesOk, unitsOk, namedIn}
+use Rattle.parts.specs.Scan.{sizesOk, byteOk, slotOk, tablesOk, edgesOk, unitsOk, namedIn}
 use Rattle.machine.specs.Tick.{difference}
 use Rattle.machine.specs.Machine.{planOk, runOk, soundOn, bookJob, bookOf, openFrameOf, moveOf}
 

@@ -9,16 +9,16 @@ use Rattle.basics.specs.Limits.{Limits}
 use Rattle.basics.proofs.Choice.{pick-map}
 use Rattle.machine.specs.declared.head.Head.{Head}
 use Rattle.machine.specs.declared.head.Turned.{Turned}
-use Rattle.machine.specs.declared.plan.Plan.{Plan}
+use Rattle.parts.specs.declared.plan.Plan.{Plan}
 use Rattle.machine.specs.declared.answer.Answer.the-variants.{No}
 use Rattle.machine.specs.declared.answer.Why.{Why}
 use Rattle.machine.specs.declared.answer.Why.the-variants.{BadState, Halted}
 use Rattle.machine.specs.declared.step.Test.{Test}
 use Rattle.machine.specs.declared.step.Test.the-variants.{Pass, Refuse}
-use Rattle.machine.specs.Marks.{isSet}
+use Rattle.parts.specs.Marks.{isSet}
 use Rattle.machine.specs.Numbers.{haltsOf}
 use Rattle.machine.specs.Run.{Run, joined, withHalted}
-use Rattle.machine.specs.Scan.{namedIn, choiceIn}
+use Rattle.parts.specs.Scan.{namedIn, choiceIn}
 use Rattle.machine.specs.Machine.{Ran, ran, says, need, _⨾_, soundOn, liveTest, orderedHead, refusedHead, refusedRun, bookOf, moveOf, orderOf, testOf, nextOf, answerOf, stepOn}
 
 -- a test that fails refuses, and one that holds is passed over

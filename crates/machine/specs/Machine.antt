@@ -9,8 +9,8 @@ use Rattle.basics.specs.Choice.{pick}
 use Rattle.basics.specs.Below.{allOf}
 use Rattle.basics.specs.Limits.{Limits}
 use Rattle.basics.specs.Marks.{idle}
-use Rattle.machine.specs.declared.plan.Counts.{Counts}
-use Rattle.machine.specs.declared.plan.Plan.{Plan}
+use Rattle.parts.specs.declared.plan.Counts.{Counts}
+use Rattle.parts.specs.declared.plan.Plan.{Plan}
 use Rattle.machine.specs.declared.head.Head.{Head}
 use Rattle.machine.specs.declared.head.Turned.{Turned}
 use Rattle.machine.specs.declared.answer.Answer.{Answer}
@@ -21,11 +21,11 @@ use Rattle.machine.specs.declared.step.Test.{Test}
 use Rattle.machine.specs.declared.step.Test.the-variants.{Pass, Refuse}
 use Rattle.machine.specs.declared.tick.Tick.{Tick}
 use Rattle.machine.specs.declared.tick.Tick.the-variants.{Next, Same, Lost, Stale}
-use Rattle.machine.specs.Marks.{isSet}
+use Rattle.parts.specs.Marks.{isSet}
 use Rattle.machine.specs.Numbers.{haltsOf}
-use Rattle.machine.specs.Plan.{cloOf, isHigh}
+use Rattle.parts.specs.Plan.{cloOf, isHigh}
 use Rattle.machine.specs.Run.{Run, joined, withHead, withSlot, withLast, withOrdered, withHigh, withHalted, freshHead}
-use Rattle.machine.specs.Scan.{sizesOk, byteOk, tablesOk, edgesOk, jobsOk, unitsOk, namedIn, bump, pastHigh, choiceIn}
+use Rattle.parts.specs.Scan.{sizesOk, byteOk, tablesOk, edgesOk, jobsOk, unitsOk, namedIn, bump, pastHigh, choiceIn}
 use Rattle.machine.specs.Tick.{tickOf}
 
 -- an answer beside the run that it leaves

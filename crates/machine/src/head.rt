@@ -6,19 +6,19 @@ ghost use lib.ListN.{getD};
 ghost use Rattle.basics.specs.Limits.{firstEdition};
 ghost use Rattle.basics.specs.Marks.{idle};
 ghost use Rattle.machine.specs.Run.{joined, withHigh, withHalted, freshHead, noHead};
-ghost use Rattle.machine.specs.Scan.{choiceIn};
+ghost use Rattle.parts.specs.Scan.{choiceIn};
 ghost use Rattle.machine.specs.Machine.{orderedHead, refusedHead, openFrameOf, bookOf, moveOf};
 use crate::answer;
 use crate::answer::Answer;
 use crate::answer::Why;
-use crate::plan::CLO;
-use crate::plan::ENDS;
-use crate::plan::JOBS;
-use crate::plan::LEVEL;
-use crate::plan::Plan;
-use crate::plan::number;
-use crate::scan;
 use joblist::MOST_JOBS;
+use parts::plan::CLO;
+use parts::plan::ENDS;
+use parts::plan::JOBS;
+use parts::plan::LEVEL;
+use parts::plan::Plan;
+use parts::plan::number;
+use parts::scan;
 
 // The slot, the last tick taken, the job ordered last, the mode (HI where `high` is set) and the halted mark. Marks are
 // bytes: 0 is clear, anything else set. So every memory content is a head. No step looks at `spare`, or changes it.

@@ -2,7 +2,5 @@
 
 pub mod answer;
 pub mod head;
-pub mod plan;
-mod scan;
 pub mod step;
 pub mod tick;

@@ -5,21 +5,21 @@ ghost use mathlib.Core.Bool.{true};
 ghost use Prim.Native.Nat.{_≤_, _<_};
 ghost use Rattle.basics.specs.Limits.{firstEdition};
 ghost use Rattle.basics.specs.Marks.{idle};
-ghost use Rattle.machine.specs.Plan.{planWith};
+ghost use Rattle.parts.specs.Plan.{planWith};
 ghost use Rattle.machine.specs.Run.{joined};
 ghost use Rattle.machine.specs.Machine.{planOk, runOk, soundOn, tickTest, endTest, liveTest, ran, nextOf, stepOn};
 use crate::answer::Why;
 use crate::head::Head;
 use crate::head::Turned;
-use crate::plan::Counts;
-use crate::plan::ENDS;
-use crate::plan::ENTRIES;
-use crate::plan::JOBS;
-use crate::plan::Plan;
-use crate::scan;
 use crate::tick;
 use crate::tick::Tick;
 use joblist::MOST_JOBS;
+use parts::plan::Counts;
+use parts::plan::ENDS;
+use parts::plan::ENTRIES;
+use parts::plan::JOBS;
+use parts::plan::Plan;
+use parts::scan;
 
 // Whether a step is refused, and why.
 pub enum Test {

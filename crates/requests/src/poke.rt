@@ -4,8 +4,8 @@ use dispatch::state::State;
 use joblist::MOST_EDGES;
 use joblist::MOST_JOBS;
 use joblist::MOST_SLOTS;
-use machine::plan;
-use machine::plan::Plan;
+use parts::plan;
+use parts::plan::Plan;
 
 // The fields, numbered in the order of their names below: words, bytes, then what has a place for each job, edge and slot.
 const SLOT: usize = 0;

@@ -174,7 +174,13 @@ fn step(run: Run, plan: &[u8], names: Names, tick: u16, ended: bool) -> Run {
     let state = r.state;
     let page = run.page;
     let marked = put_mark(page.put(b"tick ").number_right(tick as usize, 5), ended);
-    let said = put_answer(marked, names, answer, state.head.slot as usize, state.head.high);
+    let said = put_answer(
+        marked,
+        names,
+        answer,
+        state.head.slot as usize,
+        state.head.high,
+    );
     run.stepped(state, said.end())
 }
 

@@ -51,20 +51,20 @@ use borrow.Struct.Share.{Parts, part-cut}
 use borrow.Struct.Behind.{look-at}
 use borrow.Struct.Items.{cut-array}
 use Rattle.basics.specs.Limits.{firstEdition}
-use Rattle.machine.specs.declared.plan.Counts.{Counts}
-use Rattle.machine.specs.declared.plan.Plan.{Plan}
+use Rattle.parts.specs.declared.plan.Counts.{Counts}
+use Rattle.parts.specs.declared.plan.Plan.{Plan}
 use Rattle.machine.specs.declared.head.Head.{Head}
 use Rattle.dispatch.specs.declared.state.State.{State}
 use Rattle.dispatch.specs.declared.state.Stepped.{Stepped}
-use Rattle.machine.specs.Marks.{isSet}
+use Rattle.parts.specs.Marks.{isSet}
 use Rattle.machine.specs.Machine.{stepOn}
 use Rattle.dispatch.specs.State.{runOf, stateWith, stepOf}
 use Rattle.dispatch.proofs.state.State as T
 use Rattle.dispatch.proofs.state.State.Laws as T′
-use Rattle.machine.proofs.plan.Counts as K
-use Rattle.machine.proofs.plan.Counts.Laws as K′
-use Rattle.machine.proofs.plan.Plan as P
-use Rattle.machine.proofs.plan.Plan.Laws as P′
+use Rattle.parts.proofs.plan.Counts as K
+use Rattle.parts.proofs.plan.Counts.Laws as K′
+use Rattle.parts.proofs.plan.Plan as P
+use Rattle.parts.proofs.plan.Plan.Laws as P′
 use Rattle.machine.proofs.head.Head as R
 use Rattle.machine.proofs.head.Head.Laws as R′
 use Rattle.hut.specs.declared.Answer.{Answer}

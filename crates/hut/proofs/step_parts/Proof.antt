@@ -4,7 +4,7 @@ use Prim.Native.Nat.{ℕ}
 use mathlib.Core.List.{List}
 use mathlib.Core.Path.{_≡_, ap, _∙_}
 use borrow.Author.Needs.{needs}
-use Rattle.machine.specs.Marks.{isSet}
+use Rattle.parts.specs.Marks.{isSet}
 use Rattle.machine.specs.Machine.{Ran, ran}
 use Rattle.machine.specs.declared.head.Turned.{Turned}
 use Rattle.hut.specs.Calls.{Answered, stepAnswer, moved, answered}

@@ -3,7 +3,7 @@
 use mathlib.Core.Path.{sym, ap, _∙_}
 use borrow.Author.Needs.{needs}
 use Rattle.basics.specs.Limits.{firstEdition}
-use Rattle.machine.specs.declared.plan.Plan.{Plan}
+use Rattle.parts.specs.declared.plan.Plan.{Plan}
 use Rattle.dispatch.specs.State.{freshOf}
 use Rattle.dispatch.proofs.Opened.{fields-fit, open-yes, open-no}
 use Rattle.dispatch.proofs.open.open.Statement.{statement}

@@ -4,7 +4,7 @@ use borrow.Author.Needs.{needs}
 use mathlib.Core.Path.{sym, ap, _∙_}
 use Rattle.basics.specs.Choice.{pick}
 use Rattle.machine.specs.Machine.{liveTest, tickTest, need, _⨾_}
-use Rattle.machine.proofs.Marks.{mark-clear, mark-set}
+use Rattle.parts.proofs.Marks.{mark-clear, mark-set}
 use Rattle.machine.proofs.step.live_test.Statement.{statement}
 use Rattle.machine.proofs.step.live_test.Tie as tie
 
