@@ -29,11 +29,11 @@ returns-2 c = simp (ne-eqb _ _ (λ e. c .before .if1 .left (diff (c .before .bef
 
 returns-3 : tie.Need-returns-3
 unfolding tickOf pick
-returns-3 c = simp (ne-eqb _ _ (λ e. c .before .before .if1 .left (diff (c .before .before .before) ∙ e)), ne-eqb _ _ (λ e. c .before .if2 .left (diff (c .before .before .before) ∙ e)), lt-ltb _ _ (rw (diff (c .before .before .before)) at (c .if3 .taken)))
+returns-3 c = simp (ne-eqb _ _ (λ e. c .before .before .if1 .left (diff (c .before .before .before) ∙ e)), ne-eqb _ _ (λ e. c .before .if2 .left (diff (c .before .before .before) ∙ e)), lt-ltb (difference (c .before .before .before .before .args .tick) (c .before .before .before .before .args .last)) 32768 (omega (arith, diff (c .before .before .before))))
 
 returns-4 : tie.Need-returns-4
 unfolding tickOf pick
-returns-4 c = simp (ne-eqb _ _ (λ e. c .before .before .if1 .left (diff (c .before .before .before) ∙ e)), ne-eqb _ _ (λ e. c .before .if2 .left (diff (c .before .before .before) ∙ e)), le-ltb _ _ (rw (diff (c .before .before .before)) at (c .if3 .left)))
+returns-4 c = simp (ne-eqb _ _ (λ e. c .before .before .if1 .left (diff (c .before .before .before) ∙ e)), ne-eqb _ _ (λ e. c .before .if2 .left (diff (c .before .before .before) ∙ e)), le-ltb (difference (c .before .before .before .before .args .tick) (c .before .before .before .before .args .last)) 32768 (omega (arith, diff (c .before .before .before))))
 
 pub said-spec : {M : Type 1} → statement M
 said-spec = tie.close (tie.spec wrapping-sub-u16-requires returns returns-2 returns-3 returns-4)
