@@ -253,16 +253,16 @@ fn target_of(s: &[u8], table: &[u8], j: usize, t: usize) -> usize
     highest_empty(s, table, b, t)
 }
 
-// The unit of slot t moves.
-fn move_one(s: &[u8], table: &mut [u8], t: usize)
-    requires { ⌜ Accepted firstEdition (now s) × (length (now table) ≡ slots (now s)) × (t < slots (now s)) ⌝ }
-    ensures { λ _. ⌜ now (table .exit) ≡ move (now (s .entry)) (now (table .entry)) t ⌝ }
+// The unit of a slot moves; its own slot counts as empty.
+fn move_one(s: &[u8], table: &mut [u8], own: usize)
+    requires { ⌜ Accepted firstEdition (now s) × (length (now table) ≡ slots (now s)) × (own < slots (now s)) ⌝ }
+    ensures { λ _. ⌜ now (table .exit) ≡ move (now (s .entry)) (now (table .entry)) own ⌝ }
 {
-    let v = table[t];
+    let v = table[own];
     let j = wide(v);
     if j < jobs_of(s) {
-        table[t] = IDLE;
-        let x = target_of(s, table, j, t);
+        table[own] = IDLE;
+        let x = target_of(s, table, j, own);
         table[x] = v;
     }
 }

@@ -2,9 +2,11 @@
 -- Assumes nothing.
 use Rattle.merge.proofs.Laws.{refused-pair, refused-check, built, built-lo-long, built-hi-long}
 use Rattle.merge.specs.declared.Built.the-variants.{Plan}
-use mathlib.Core.Path.{_∙_, sym, ap}
+use mathlib.Core.Path.{_≡_, _∙_, sym, ap}
 use Rattle.basics.specs.Limits.{firstEdition}
+use Rattle.joblist.specs.Fields.{slots}
 use Rattle.joblist.proofs.Accepted.{accepted, list-length}
+use lib.ListN.{length, length-replicate}
 use Rattle.merge.specs.Build.{mergePlan}
 use borrow.Author.Needs.{needs}
 use native.Mathlib.Omega.{arith}
@@ -73,12 +75,14 @@ returns-2 c = let s = c .before .before .before .before .before .before .before 
     rw g (refused-check firstEdition s out (p .0) (p .6) (sym (c .before .before .before .before .before .before .before .before .before .before .before .before .before .before .before .before .before .make-pair .ensures .0) ∙ m) _ (sym v ∙ g))
 
 put-plan-requires : tie.Need-put-plan-requires
-put-plan-requires c κs = let s = c .before .before .before .before .before .before .before .before .before .before .before .before .before .before .before .before .before .before .before .before .before .before .before .before .before .before .before .before .before .before .before .before .before .args .list .now in
-    let out = c .before .before .before .before .before .before .before .before .before .before .before .before .before .before .before .before .before .before .before .before .before .before .before .before .before .before .before .before .before .before .before .before .before .args .out .now in
+put-plan-requires c κs = let a = c .before .before .before .before .before .before .before .before .before .before .before .before .before .before .before .before .before .before .before .before .before .before .before .before .before .before .before .before .before .before .before .before .before .args in
     let p = c .before .before .before .before .before .before .before .before .before .before .before .before .before .before .before .before .before .before .before .before .before .before .before .before .before .before .before .before .before .before .before .before .before .pre in
-    let m = c .before .before .before .before .before .before .before .before .enum-told .given .1 in
-    let t = c .before .before .before .before .before .before .before .before .before .before .before .before .before .before .before .before .before .before .before .before .make-pair .ensures .1 m in
-    rw (t .0, t .1, built-lo-long s, built-hi-long s, list-length firstEdition s (p .0)) (omega (arith, p .6))
+    let low : length (a .low .now) ≡ slots (a .list .now) = ap length (p .1) ∙ length-replicate _ _ in
+    let left : length (a .left .now) ≡ slots (a .list .now) = ap length (p .3) ∙ length-replicate _ _ in
+    let lo : length (a .lo .now) ≡ slots (a .list .now) = ap length (p .4) ∙ length-replicate _ _ in
+    let hi : length (a .hi .now) ≡ slots (a .list .now) = ap length (p .5) ∙ length-replicate _ _ in
+    let list = list-length firstEdition (a .list .now) (p .0) in
+    omega (arith, p .6)
 
 same-length-11 : tie.Need-same-length-11
 same-length-11 c = search needs
