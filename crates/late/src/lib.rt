@@ -1,6 +1,6 @@
 // The late tables. All functions here are inner ones: they are called on lists that the list's check accepts, and on tables of L bytes.
-use joblist::IDLE;
 use joblist::MOST_JOBS;
+use joblist::Table;
 use joblist::arrival_of;
 use joblist::deadline_of;
 use joblist::edge_from;
@@ -29,7 +29,7 @@ ghost use Rattle.late.specs.Late.{orElse, ready, lateAt, takes, edfAt, l
 ghost use Rattle.late.specs.declared.Late.the-variants.{Fine};
 
 // No job is chosen.
-const NO_JOB: usize = IDLE as usize;
+const NO_JOB: usize = Table::IDLE as usize;
 
 // A job that is late, with the slot; or none.
 pub enum Late {
@@ -261,7 +261,7 @@ fn move_one(s: &[u8], table: &mut [u8], own: usize)
     let v = table[own];
     let j = wide(v);
     if j < jobs_of(s) {
-        table[own] = IDLE;
+        table[own] = Table::IDLE;
         let x = target_of(s, table, j, own);
         table[x] = v;
     }
@@ -312,7 +312,7 @@ pub fn keep_first(s: &[u8], table: &mut [u8])
     for t in 0..l {
         let j = wide(table[t]);
         if !is_first(s, &had, j) {
-            table[t] = IDLE;
+            table[t] = Table::IDLE;
         }
         had = one_more(n, had, j);
     }
