@@ -1,8 +1,11 @@
 -- `merge::build_in` meets its contract.
 -- Assumes nothing.
-use Rattle.merge.proofs.Laws.{refused-pair, refused-check, built, built-lo-long, built-hi-long}
+use Rattle.merge.proofs.Laws.{refused-pair, refused-check, built}
 use Rattle.merge.specs.declared.Built.the-variants.{Plan}
-use mathlib.Core.Path.{_≡_, _∙_, sym, ap}
+use mathlib.Core.Path.{_≡_, _∙_, sym, ap, ap₂}
+use Rattle.basics.specs.Put.{put}
+use Rattle.verdict.specs.Answer.{checkOf}
+use Rattle.planfile.specs.Plan.{planOf}
 use Rattle.basics.specs.Limits.{firstEdition}
 use Rattle.joblist.specs.Fields.{slots}
 use Rattle.joblist.proofs.Accepted.{accepted, list-length}
@@ -70,7 +73,7 @@ returns-2 c = let s = c .before .before .before .before .before .before .before 
     let p = c .before .before .before .before .before .before .before .before .before .before .before .before .before .before .before .before .before .before .before .before .before .before .before .before .before .before .before .before .before .before .pre in
     let m = c .before .before .before .before .before .enum-told .given .1 in
     let t = c .before .before .before .before .before .before .before .before .before .before .before .before .before .before .before .before .before .make-pair .ensures .1 m in
-    let v = rw (t .0, t .1) at (c .before .before .check .ensures) in
+    let v = c .before .before .check .ensures ∙ ap₂ (checkOf firstEdition s) (t .0) (t .1) in
     let g = c .enum-told3 .given .1 in
     rw g (refused-check firstEdition s out (p .0) (p .6) (sym (c .before .before .before .before .before .before .before .before .before .before .before .before .before .before .before .before .before .make-pair .ensures .0) ∙ m) _ (sym v ∙ g))
 
@@ -109,10 +112,11 @@ returns-3 c = let s = c .before .before .before .before .before .before .before 
     let p = c .before .before .before .before .before .before .before .before .before .before .before .before .before .before .before .before .before .before .before .before .before .before .before .before .before .before .before .before .before .before .before .before .before .before .before .before .pre in
     let m = c .before .before .before .before .before .before .before .before .before .before .before .enum-told .given .1 in
     let t = c .before .before .before .before .before .before .before .before .before .before .before .before .before .before .before .before .before .before .before .before .before .before .before .make-pair .ensures .1 m in
-    let v = rw (t .0, t .1) at (c .before .before .before .before .before .before .before .before .check .ensures) in
+    let v = c .before .before .before .before .before .before .before .before .check .ensures ∙ ap₂ (checkOf firstEdition s) (t .0) (t .1) in
     let b = built firstEdition s out (p .0) (p .6) (sym (c .before .before .before .before .before .before .before .before .before .before .before .before .before .before .before .before .before .before .before .before .before .before .before .make-pair .ensures .0) ∙ m) (sym v ∙ c .before .before .before .before .before .before .enum-told2 .given .1) in
-    let w = rw (t .0, t .1) at (c .before .before .put-plan .ensures) in
-    (ap Plan (w .0) ∙ b .0, w .1 ∙ b .1)
+    let w = c .before .before .put-plan .ensures in
+    let e = ap₂ (planOf s) (t .0) (t .1) in
+    (ap Plan (w .0 ∙ ap length e) ∙ b .0, w .1 ∙ ap (put out 0) e ∙ b .1)
 
 pub build-in-spec : {M : Type 1} → statement M
 build-in-spec =

@@ -7,7 +7,7 @@ use lib.ListN.{length, length-replicate}
 use Rattle.merge.specs.Build.{pairOf, builtHi}
 use Rattle.late.proofs.First.{tlo-long, thi-long}
 use Rattle.lotable.specs.TableLo.{before, Tables, clashOf, tableLo}
-use Rattle.hitable.specs.TableHi.{tableHi}
+use Rattle.hitable.specs.TableHi.{hiAt, tableHi}
 use Rattle.merge.proofs.Laws.{made-fine}
 use borrow.Author.Needs.{needs}
 use native.Mathlib.Omega.{arith}
@@ -105,7 +105,7 @@ returns-3 c = let a = c .before .before .before .before .before .before .before 
     let f = made-fine (c .before .before .before .before .before .before .before .before .before .before .before .before .before .before .before .table-lo .result) m in
     let k = rw (lt .1, c .before .before .before .before .before .before .before .before .before .before .before .before .before .before .before .before .before .before .before .before .before .copy-table .ensures, lt .2, p .4, f) at (c .before .before .before .before .before .before .before .before .before .before .before .before .before .before .before .table-lo .ensures .1) in
     let lo = ap (λ (x : Tables). x .lo) k in
-    (sym (rw (pairOf, ← lt .0, c .before .before .before .before .before .before .before .before .before .before .before .before .before .before .before .before .before .before .before .before .before .before .before .before .enum-told .given .1, clashOf, ← t) m), λ e. (lo, rw (lo, lt .2, p .5) at (c .before .before .table-hi .ensures)))
+    (sym (rw (pairOf, ← lt .0, c .before .before .before .before .before .before .before .before .before .before .before .before .before .before .before .before .before .before .before .before .before .before .before .before .enum-told .given .1, clashOf, ← t) m), λ e. (lo, c .before .before .table-hi .ensures ∙ (λ z. hiAt (a .list .now) (lo z) (lt .2 z) (p .5 z) (slots (a .list .now)) .table)))
 
 pub make-pair-spec : {M : Type 1} → statement M
 make-pair-spec =
