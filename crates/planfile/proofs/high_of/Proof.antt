@@ -1,7 +1,9 @@
 -- `high_of` meets its contract: the part after the list and table LO, as many bytes as a table has.
 -- Assumes nothing.
 use borrow.Author.Needs.{needs}
-use mathlib.Core.Path.{_∙_, sym}
+use mathlib.Core.Path.{_∙_, sym, ap₂}
+use Prim.Native.Nat.{ℕ, _+_}
+use lib.ListN.{take, drop}
 use Rattle.planfile.proofs.Parts.{part-none, part-some}
 use Rattle.planfile.proofs.high_of.Statement.{statement}
 use Rattle.planfile.proofs.high_of.Tie as tie
@@ -31,7 +33,8 @@ part-requires : tie.Need-part-requires
 part-requires c κs = search needs
 
 returns-2 : tie.Need-returns-2
-returns-2 c = c .part .ensures ∙ rw (c .before .before .low-at .ensures .0, c .before .slots-of .ensures .0) (sym (part-some _ _ _ (c .before .before .before .if1 .left)))
+returns-2 c = let s = c .before .before .before .before .before .args .plan .now in
+    c .part .ensures ∙ ap₂ (λ (at k : ℕ). take k (drop (at + k) s)) (c .before .before .low-at .ensures .0) (c .before .slots-of .ensures .0) ∙ sym (part-some s _ _ (c .before .before .before .if1 .left))
 
 pub high-of-spec : {M : Type 1} → statement M
 high-of-spec =
