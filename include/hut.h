@@ -13,6 +13,8 @@
  * What the caller owes:
  * - a pointer is never NULL, also where its length is 0, and that many bytes behind it may be read;
  * - the bytes of `out` may be written, and none of them is also lent as another argument of that call;
+ * - the state that hut_step is given may be read and written, all HUT_STATE_BYTES of it, and stands at an
+ *   address that is a multiple of 2, as a struct hut_state does;
  * - nobody else reads or writes lent bytes, or the state, while the call runs.
  */
 #ifndef HUT_H
@@ -71,10 +73,12 @@ struct hut_place {
  *  10   late: a deadline is missed                               slot, job, switched
  *  11   too early: a job is named before it arrives              slot, job, switched
  *  12   a job is named before its predecessor has finished       slot, job, pred, switched
- *  20   the low jobs alone do not fit                            slot, job
- *  21   the high jobs alone do not fit                           slot, job
- *  22   both late tables need the slot                           slot
- *  23   a low job would begin before its predecessor is done     slot
+ *  20   the late table of the low jobs: a job with its deadline
+ *       at the slot is unfinished there                          slot, job
+ *  21   the same of the high jobs                                slot, job
+ *  22   both late tables hold a job at the slot                  slot
+ *  23   the late table's low job there has a predecessor that
+ *       has not all its CLO units in table LO yet                slot
  *  24   the built pair fails the check                           fault, and that fault's place
  *  30   the same tick again
  *  31   ticks were lost: the state is halted
@@ -90,6 +94,8 @@ struct hut_place {
  *  44   a zero field is not zero
  *  45   a table byte is neither 255 nor a job                    slot
  *  46   the output is shorter than the plan
+ *
+ * 20 to 24 say how far the merge method came. A builder's no is not a claim that no pair exists.
  */
 struct hut_answer {
     size_t number;

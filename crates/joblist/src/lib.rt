@@ -19,8 +19,13 @@ pub const MOST_SLOTS: usize = 1024;
 
 pub const MOST_BUDGET: usize = 1024;
 
-// A table byte that names no job. The plan type has it as its own constant.
-pub const IDLE: u8 = 255;
+// A slot table: one byte a slot, a job number or the idle mark.
+pub struct Table;
+
+impl Table {
+    // Names no job.
+    pub const IDLE: u8 = 255;
+}
 
 // The bytes of the head, of a job, and of an edge.
 pub const HEAD_BYTES: usize = 8;

@@ -18,6 +18,7 @@ use Prim.Native.Nat.{ℕ, zero, suc, _+_, _≤_, _<_, min}
 use Rattle.late.specs.Table.{entry, units, allIdle, held}
 use Rattle.late.specs.declared.Late.the-variants.{Fine}
 use Rattle.late.specs.Late.{lateTable, firstUnit, firstUnits, lateOf, takes, tlo, thi}
+use Rattle.late.specs.Meaning.{FirstOfEach}
 use Rattle.late.proofs.Units.{one, units-step, units-zero}
 use Rattle.late.proofs.Moving.{late-long}
 use Rattle.late.proofs.First.{first-long}
@@ -32,6 +33,14 @@ module _ (s table : List ℕ) (few : jobs s ≤ 254) where
       go : Dec (x ≡ t) → (x < t → entry (firstUnits s table t) x ≡ firstUnit s table x) → entry (set (firstUnits s table t) t (firstUnit s table t)) x ≡ firstUnit s table x
       go (yes p) r = rw p (getD-set-same (firstUnits s table t) t (firstUnit s table t) 0 (rw (first-long s table t) (omega arith)))
       go (no p) r = getD-set-other (firstUnits s table t) t x (firstUnit s table t) 0 p ∙ r (omega arith)
+
+  first-same : (x : ℕ) → firstUnit s table x < jobs s → firstUnit s table x ≡ entry table x
+  unfolding firstUnit
+  first-same x l = go (held s table x && ltb (units table x (entry table x)) (ordinary s (entry table x))) l
+    where
+      go : (b : Bool) → cond b (entry table x) idle < jobs s → cond b (entry table x) idle ≡ entry table x
+      go true l = refl
+      go false l = absurd (omega arith)
 
   module _ (j : ℕ) (l : j < jobs s) where
     -- whether the unit of slot t is one of the first of job j
@@ -88,3 +97,17 @@ module _ (lim : Limits) (s : List ℕ) (acc : Accepted lim s) (few : jobs s ≤ 
 
   pub late-units : lateOf s 0 ≡ Fine → lateOf s 1 ≡ Fine → units (tlo s) (slots s) j + units (thi s) (slots s) j ≡ ordinary s j
   late-units a b = ap₂ _+_ (tlo-units a) (thi-units b) ∙ both-levels
+
+-- THI keeps the first CLO units of each high job
+pub thi-first : (s : List ℕ) → jobs s ≤ 254 → FirstOfEach s
+unfolding thi
+thi-first s few = record { same = λ x h e. same x h (ltb-true _ _ e); first = λ t j h l. first-units s table few j l (slots s) t h long }
+  where
+    table : List ℕ
+    table = lateTable s 1 (allIdle s)
+
+    long : slots s ≤ length table
+    long = omega (arith, late-long s 1 (allIdle s), length-replicate (slots s) idle)
+
+    same : (x : ℕ) → x < slots s → entry (firstUnits s table (slots s)) x < jobs s → entry (firstUnits s table (slots s)) x ≡ entry table x
+    same x h l = first-at s table few (slots s) x h long ∙ first-same s table few x (rw (first-at s table few (slots s) x h long) at l)

@@ -16,12 +16,26 @@ use mathlib.Core.Bool.{Bool, true, false, cond}
 use mathlib.Core.List.{List}
 use mathlib.Core.Path.{_≡_, refl, sym, ap, _∙_}
 use Prim.Native.Nat.{ℕ, zero, suc, _-_, _≤_, _<_}
-use Rattle.basics.proofs.Find.{find-some}
-use Rattle.basics.proofs.Tests.{of-false, not-both}
+use Rattle.basics.proofs.Find.{find-some, find-none}
+use Rattle.basics.proofs.Tests.{lie, of-false, not-both}
 use Rattle.late.specs.Table.{entry, units, held, empty}
 use Rattle.late.specs.Late.{holdsNext, target, move, moved}
 use Rattle.late.proofs.Units.{units-set}
 use Rattle.late.proofs.Moving.{move-held, move-idle, moved-zero, moved-step, moved-long, target-most}
+
+-- what is found is the first that passes
+find-first : (f : ℕ → Bool) (k i x y : ℕ) → find f k i ≡ some x → i ≤ y → y < x → f y ≡ false
+unfolding find
+find-first f zero i x y e h l = let z : _≡_ {A = ℕ} 0 1 = cc in absurd (omega arith)
+find-first f (suc k) i x y e h l = go (f i) refl e (λ q m. find-first f k (suc i) x y q m l) (ℕ-discrete i y)
+  where
+    go : (b : Bool) → f i ≡ b → (elim b [ true ↦ some i | false ↦ find f k (suc i) ]) ≡ some x
+        → (find f k (suc i) ≡ some x → suc i ≤ y → f y ≡ false) → Dec (i ≡ y) → f y ≡ false
+    go true p q ih d =
+        let ix : i ≡ x = cc in
+        absurd (omega arith)
+    go false p q ih (yes r) = rw (← r) p
+    go false p q ih (no r) = ih q (omega arith)
 
 -- the lowest number that passes is past those that do not
 pub lowest-above : (f : ℕ → Bool) (n t : ℕ) → t < n → ((x : ℕ) → x ≤ t → f x ≡ false) → t < lowest f n 0
@@ -35,6 +49,15 @@ lowest-above f n t h miss = go (find f (n - 0) 0) refl
         at : Dec (t < x) → t < x
         at (yes p) = p
         at (no p) = absurd (of-false (miss x (omega arith)) (find-some f (n - 0) 0 x e .0))
+
+-- no number below the lowest that passes does
+pub lowest-miss : (f : ℕ → Bool) (n y : ℕ) → y < lowest f n 0 → f y ≡ false
+unfolding lowest
+lowest-miss f n y h = go (find f (n - 0) 0) refl h
+  where
+    go : (o : Option ℕ) → find f (n - 0) 0 ≡ o → y < foundOr n o → f y ≡ false
+    go none e l = lie (f y) (find-none f (n - 0) 0 e y (omega arith) (omega arith))
+    go (some x) e l = find-first f (n - 0) 0 x y e (omega arith) l
 
 -- the highest number below b that passes is at least t, where t passes, and is below b
 pub highest-above : (f : ℕ → Bool) (u b t : ℕ) → t < b → f t ≡ true → t ≤ highest f u b

@@ -22,7 +22,7 @@ use Rattle.late.proofs.Earliest.{edf-long}
 use Rattle.late.proofs.EdfTable.{edf-entry, edf-choice}
 use Rattle.late.proofs.InTime.{edf-exact}
 use Rattle.late.proofs.Later.{moved-keeps}
-use Rattle.late.proofs.Serves.{stage, own-below, own-free, own-later, moved-window}
+use Rattle.late.proofs.Serves.{stage, own-below, own-free, own-later, moved-window, moved-ordered}
 
 module _ (lim : Limits) (s : List ℕ) (acc : Accepted lim s) (few : jobs s ≤ 254) (v : ℕ) where
   size : length (filled s v) ≡ slots s
@@ -54,7 +54,7 @@ module _ (lim : Limits) (s : List ℕ) (acc : Accepted lim s) (few : jobs s ≤ 
           later = own-later lim s acc few v (filled s v) size chosen-at fine-filled k h (after s v k) st l;
         }
 
-    -- moving late keeps each job's units, all that it takes, each in its window
+    -- moving late keeps each job's units, all that it takes, each in its window and before its successors
     pub late-table : LateTable s v
     unfolding lateTable
     late-table =
@@ -65,4 +65,5 @@ module _ (lim : Limits) (s : List ℕ) (acc : Accepted lim s) (few : jobs s ≤ 
               ∙ edf-exact s v few (filled s v) chosen-at fine-filled j l (deadline-in-frame lim s acc j l);
           arrived = λ x h e. moved-window lim s acc few v (filled s v) size chosen-at fine-filled x h (ltb-true _ _ e) .0;
           inTime = λ x h e. moved-window lim s acc few v (filled s v) size chosen-at fine-filled x h (ltb-true _ _ e) .1;
+          ordered = moved-ordered lim s acc few v (filled s v) size chosen-at fine-filled;
         }

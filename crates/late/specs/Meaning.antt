@@ -1,6 +1,6 @@
 -- What the late tables mean, as statements for the reader who must believe the definitions.
 -- Assumes nothing.
-use Prim.Native.Nat.{ℕ, _≤_, _<_}
+use Prim.Native.Nat.{ℕ, _≤_, _<_, min}
 use mathlib.Core.Path.{_≡_}
 use mathlib.Core.Bool.{true}
 use mathlib.Core.List.{List}
@@ -8,9 +8,15 @@ use lib.ListN.{set}
 use Rattle.basics.specs.Choice.{Best}
 use Rattle.basics.specs.Find.{lowest}
 use Rattle.basics.specs.Marks.{idle}
-use Rattle.joblist.specs.Fields.{jobs, slots, arrival, deadline}
+use Rattle.joblist.specs.Fields.{jobs, edges, slots, arrival, deadline, ordinary, edgeIn}
 use Rattle.late.specs.Table.{entry, units, allIdle, held, empty}
-use Rattle.late.specs.Late.{ready, takes, unfinished, edf, holdsNext, target, moved, lateTable}
+use Rattle.late.specs.Late.{ready, takes, unfinished, edf, holdsNext, target, moved, lateTable, thi}
+
+-- no unit of a job stands at or past a unit of its successor
+abbrev pub Ordered : List ℕ → List ℕ → Type 0
+Ordered s table =
+    (x y : ℕ) → x < slots s → y ≤ x → entry table x < jobs s → entry table y < jobs s
+    → edgeIn s (jobs s) (edges s) (entry table x) (entry table y) ≡ true → ⊥
 
 module _ (s : List ℕ) (v : ℕ) where
   -- earliest deadline first from an idle table; the same when the units of the last k slots have moved
@@ -31,9 +37,15 @@ module _ (s : List ℕ) (v : ℕ) where
     pub free : empty s (set (after k) t idle) t ≡ true
     pub later : t ≤ target s (set (after k) t idle) (entry (after k) t) t
 
-  -- the late table: each job has exactly the units that it takes, as many as before the moves, and each unit stands in its job's window
+  -- the late table: each job has exactly the units that it takes, as many as before the moves; each unit stands in its job's window, and before every unit of a successor
   pub record LateTable : Type 0 where
     pub kept : (j : ℕ) → j < jobs s → units (lateTable s v (allIdle s)) (slots s) j ≡ units filled (slots s) j
     pub exact : (j : ℕ) → j < jobs s → units (lateTable s v (allIdle s)) (slots s) j ≡ takes s v j
     pub arrived : (x : ℕ) → x < slots s → held s (lateTable s v (allIdle s)) x ≡ true → arrival s (entry (lateTable s v (allIdle s)) x) ≤ x
     pub inTime : (x : ℕ) → x < slots s → held s (lateTable s v (allIdle s)) x ≡ true → x < deadline s (entry (lateTable s v (allIdle s)) x)
+    pub ordered : Ordered s (lateTable s v (allIdle s))
+
+-- THI: each of its units is one of the late table of high jobs, in the same slot; and before any slot it has the first CLO units of a job, those and no others
+pub record FirstOfEach (s : List ℕ) : Type 0 where
+  pub same : (x : ℕ) → x < slots s → held s (thi s) x ≡ true → entry (thi s) x ≡ entry (lateTable s 1 (allIdle s)) x
+  pub first : (t j : ℕ) → t ≤ slots s → j < jobs s → units (thi s) t j ≡ min (units (lateTable s 1 (allIdle s)) t j) (ordinary s j)

@@ -1,6 +1,6 @@
 // The late tables. All functions here are inner ones: they are called on lists that the list's check accepts, and on tables of L bytes.
-use joblist::IDLE;
 use joblist::MOST_JOBS;
+use joblist::Table;
 use joblist::arrival_of;
 use joblist::deadline_of;
 use joblist::edge_from;
@@ -29,7 +29,7 @@ ghost use Rattle.late.specs.Late.{orElse, ready, lateAt, takes, edfAt, l
 ghost use Rattle.late.specs.declared.Late.the-variants.{Fine};
 
 // No job is chosen.
-const NO_JOB: usize = IDLE as usize;
+const NO_JOB: usize = Table::IDLE as usize;
 
 // A job that is late, with the slot; or none.
 pub enum Late {
@@ -253,16 +253,16 @@ fn target_of(s: &[u8], table: &[u8], j: usize, t: usize) -> usize
     highest_empty(s, table, b, t)
 }
 
-// The unit of slot t moves.
-fn move_one(s: &[u8], table: &mut [u8], t: usize)
-    requires { ⌜ Accepted firstEdition (now s) × (length (now table) ≡ slots (now s)) × (t < slots (now s)) ⌝ }
-    ensures { λ _. ⌜ now (table .exit) ≡ move (now (s .entry)) (now (table .entry)) t ⌝ }
+// The unit of a slot moves; its own slot counts as empty.
+fn move_one(s: &[u8], table: &mut [u8], own: usize)
+    requires { ⌜ Accepted firstEdition (now s) × (length (now table) ≡ slots (now s)) × (own < slots (now s)) ⌝ }
+    ensures { λ _. ⌜ now (table .exit) ≡ move (now (s .entry)) (now (table .entry)) own ⌝ }
 {
-    let v = table[t];
+    let v = table[own];
     let j = wide(v);
     if j < jobs_of(s) {
-        table[t] = IDLE;
-        let x = target_of(s, table, j, t);
+        table[own] = Table::IDLE;
+        let x = target_of(s, table, j, own);
         table[x] = v;
     }
 }
@@ -312,7 +312,7 @@ pub fn keep_first(s: &[u8], table: &mut [u8])
     for t in 0..l {
         let j = wide(table[t]);
         if !is_first(s, &had, j) {
-            table[t] = IDLE;
+            table[t] = Table::IDLE;
         }
         had = one_more(n, had, j);
     }

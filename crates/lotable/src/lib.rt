@@ -1,6 +1,6 @@
 // Table LO. All functions here are inner ones: they are called on lists that the list's check accepts, and on tables of L bytes.
-use joblist::IDLE;
 use joblist::MOST_JOBS;
+use joblist::Table;
 use joblist::arrival_of;
 use joblist::jobs_of;
 use joblist::ordinary_of;
@@ -130,15 +130,15 @@ pub fn table_lo(s: &[u8], low: &mut [u8], high: &mut [u8], out: &mut [u8]) -> Cl
     for t in 0..l {
         let waiting = waiting_of(s, &unplaced_of(s, &placed));
         let p = pick_at(s, &waiting, low, high, t);
-        let mut v = IDLE;
+        let mut v = Table::IDLE;
         match p {
             Pick::Low(k) => {
                 v = low[k];
-                low[k] = IDLE;
+                low[k] = Table::IDLE;
             }
             Pick::High(k) => {
                 v = high[k];
-                high[k] = IDLE;
+                high[k] = Table::IDLE;
             }
             Pick::Idle => {}
             Pick::Both => return Clash::BothAt(t),

@@ -29,7 +29,7 @@ use Rattle.hitable.specs.TableHi.{isHigh, turn, owing, hiAt, tableHi}
 use Rattle.merge.specs.declared.BuildWhy.the-variants.{Room, LowLate, HighLate, Both, Early, Rejected}
 use Rattle.merge.specs.declared.Built.the-variants.{Plan, No}
 use Rattle.merge.specs.Build.{pairOf, builtLo, builtHi, mergePlan, buildOf, outAfter}
-use Rattle.merge.specs.Cases.{example2, example3, figures, small20, small21, small22, small23, small24, bothLate, stands, i}
+use Rattle.merge.specs.Cases.{example2, example3, figures, small20, small21, small22, small23, small24, bothLate, stands, chained, cut, low, high, i}
 
 -- the list builds a plan of k bytes with these tables
 abbrev Builds : List ℕ → ℕ → List ℕ → List ℕ → Type 0
@@ -69,11 +69,20 @@ abbrev FirstMade : Type 0
 FirstMade =
     Builds stands 42 (0 ∷ 1 ∷ i ∷ []) (0 ∷ 1 ∷ 0 ∷ [])
 
-pub worked : Examples × Figures × Refusals × FirstMade
+-- no unit moves to or past a unit of its successor of that level; the first CLO units of each job stay
+abbrev Successors : Type 0
+Successors =
+    (tlo (chained low) ≡ i ∷ 0 ∷ 1 ∷ i ∷ [])
+    × (thi (chained high) ≡ i ∷ 0 ∷ 1 ∷ i ∷ [])
+    × (lateTable cut 1 (replicate 5 i) ≡ i ∷ 0 ∷ 0 ∷ 1 ∷ 1 ∷ [])
+    × (thi cut ≡ i ∷ 0 ∷ i ∷ 1 ∷ i ∷ [])
+
+pub worked : Examples × Figures × Refusals × FirstMade × Successors
 unfolding buildOf outAfter mergePlan pairOf builtHi planOf put waits isReady lateAt takes unfinished chosen edfAt lateAnswer target move moved lateTable firstUnit firstUnits lateOf tlo thi unplaced fits later pick tablesAt clashIn clashOf tableLo isHigh turn owing hiAt tableHi countBelow entriesBefore lowest highest earliest checkOf tablesAnswer oddEntry listAnswer frontAnswer countsAnswer within bodyAnswer fieldsAnswer goodTimes goodBudgets largest rising goodPair cyclic walk anyBelow turns inTurn edgeIn u16At firstFault searchFrom switches switchAt trySwitch reachesBudget scan faultAt faultOf owed lateJob step slotWith outran runs ready waitsFor nextMode find needsAfter oneMore switchTo
 worked = (
   ((refl, refl, refl), refl, refl, refl, (refl, refl, refl)),
   (refl, refl),
   (refl, refl, refl, refl, refl, refl, refl, refl, refl, refl),
   (refl, refl, refl),
+  (refl, refl, refl, refl),
 )

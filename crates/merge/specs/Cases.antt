@@ -52,6 +52,13 @@ bothLate = head 2 0 1 ++ job 0 1 low 2 2 ++ job 0 1 high 1 2
 abbrev pub stands : List ℕ
 stands = head 2 0 3 ++ job 0 3 high 1 2 ++ job 1 2 high 1 1
 
+-- job 0 before job 1, both of level v: job 1 has the earlier deadline; and two high jobs that need more after a switch
+abbrev pub chained : ℕ → List ℕ
+chained v = head 2 1 4 ++ job 0 4 v 1 1 ++ job 0 3 v 1 1 ++ 0 ∷ 1 ∷ []
+
+abbrev pub cut : List ℕ
+cut = head 2 1 5 ++ job 0 5 high 1 2 ++ job 0 5 high 1 2 ++ 0 ∷ 1 ∷ []
+
 -- idle in a table
 abbrev pub i : ℕ
 i = idle

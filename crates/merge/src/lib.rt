@@ -1,9 +1,9 @@
 // The builder: the merge method, slot for slot, and the plan of the pair that it makes.
 use hitable::table_hi;
-use joblist::IDLE;
 use joblist::ListAnswer;
 use joblist::MOST_SLOTS;
 use joblist::Place;
+use joblist::Table;
 use joblist::Why;
 use late::Late;
 use lotable::Clash;
@@ -217,11 +217,11 @@ pub fn build(list: &[u8], out: &mut [u8]) -> Built
     if out.len() < list.len() + 2 * l + TRAILER_BYTES {
         return Built::No(BuildWhy::Room);
     }
-    let mut low = [IDLE; MOST_SLOTS];
-    let mut high = [IDLE; MOST_SLOTS];
-    let mut left = [IDLE; MOST_SLOTS];
-    let mut lo = [IDLE; MOST_SLOTS];
-    let mut hi = [IDLE; MOST_SLOTS];
+    let mut low = [Table::IDLE; MOST_SLOTS];
+    let mut high = [Table::IDLE; MOST_SLOTS];
+    let mut left = [Table::IDLE; MOST_SLOTS];
+    let mut lo = [Table::IDLE; MOST_SLOTS];
+    let mut hi = [Table::IDLE; MOST_SLOTS];
     build_in(
         list,
         &mut low[..l],

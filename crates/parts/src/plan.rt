@@ -46,7 +46,7 @@ pub struct Plan {
 
 impl Plan {
     // No job: the idle mark of the tables and of the job ordered last.
-    pub const IDLE: u8 = joblist::IDLE;
+    pub const IDLE: u8 = joblist::Table::IDLE;
 
     // The level of a high job.
     pub const HIGH: u16 = 1;

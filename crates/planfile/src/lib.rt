@@ -247,7 +247,9 @@ pub fn low_of(plan: &[u8]) -> &[u8]
     if plan.len() < LEAST_BYTES {
         return &plan[0..0];
     }
-    part(plan, low_at(plan), joblist::slots_of(plan))
+    let at = low_at(plan);
+    let l = joblist::slots_of(plan);
+    part(plan, at, l)
 }
 
 // Its table HI, in the same way.
@@ -257,8 +259,9 @@ pub fn high_of(plan: &[u8]) -> &[u8]
     if plan.len() < LEAST_BYTES {
         return &plan[0..0];
     }
+    let at = low_at(plan);
     let l = joblist::slots_of(plan);
-    part(plan, low_at(plan) + l, l)
+    part(plan, at + l, l)
 }
 
 // The counts of a plan.

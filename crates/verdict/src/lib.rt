@@ -12,6 +12,7 @@ ghost use Rattle.verdict.specs.Numbers.{faultNumber, numberOf, placeOf, 
 use joblist::ListAnswer;
 use joblist::MOST_JOBS;
 use joblist::Place;
+use joblist::Table;
 use joblist::Why;
 
 pub mod count;
@@ -19,7 +20,7 @@ mod faults;
 mod slot;
 
 // The idle mark, as wide as an entry is read.
-pub(crate) const IDLE: usize = joblist::IDLE as usize;
+pub(crate) const IDLE: usize = Table::IDLE as usize;
 
 // The pairs of jobs.
 pub(crate) const PAIRS: usize = MOST_JOBS * MOST_JOBS;

@@ -91,10 +91,10 @@ impl State {
         if ended {
             self.done[job] = 1;
         } else if units >= self.clo[job] {
-            if high {
-                self.high = 1;
-            } else {
+            if !high {
                 self.cut[job] = 1;
+            } else if self.high == 0 {
+                self.high = 1;
             }
         }
         Ok(())

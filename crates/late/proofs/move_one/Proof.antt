@@ -33,7 +33,7 @@ same-length c = search needs
 returns : tie.Need-returns
 returns c = let j = c .before .before .before .before .wide .ensures .0 in
     let h = rw (j, c .before .before .before .jobs-of .ensures .0) at (lt-ltb _ _ (c .before .before .if1 .taken)) in
-    sym (move-held (c .before .before .before .before .before .before .before .before .args .s .now) (c .before .before .before .before .before .before .before .before .args .table .now) (c .before .before .before .before .before .before .before .before .args .t) h ∙ rw (← j, ← c .target-of .ensures .0) refl)
+    sym (move-held (c .before .before .before .before .before .before .before .before .args .s .now) (c .before .before .before .before .before .before .before .before .args .table .now) (c .before .before .before .before .before .before .before .before .args .own) h ∙ rw (← j, ← c .target-of .ensures .0) refl)
 
 returns-2 : tie.Need-returns-2
 returns-2 c = sym (move-idle _ _ _ (rw (c .before .before .wide .ensures .0, c .before .jobs-of .ensures .0) at (le-ltb _ _ (c .if1 .left))))

@@ -1,10 +1,15 @@
 -- `merge::build_in` meets its contract.
 -- Assumes nothing.
-use Rattle.merge.proofs.Laws.{refused-pair, refused-check, built, built-lo-long, built-hi-long}
+use Rattle.merge.proofs.Laws.{refused-pair, refused-check, built}
 use Rattle.merge.specs.declared.Built.the-variants.{Plan}
-use mathlib.Core.Path.{_∙_, sym, ap}
+use mathlib.Core.Path.{_≡_, _∙_, sym, ap, ap₂}
+use Rattle.basics.specs.Put.{put}
+use Rattle.verdict.specs.Answer.{checkOf}
+use Rattle.planfile.specs.Plan.{planOf}
 use Rattle.basics.specs.Limits.{firstEdition}
+use Rattle.joblist.specs.Fields.{slots}
 use Rattle.joblist.proofs.Accepted.{accepted, list-length}
+use lib.ListN.{length, length-replicate}
 use Rattle.merge.specs.Build.{mergePlan}
 use borrow.Author.Needs.{needs}
 use native.Mathlib.Omega.{arith}
@@ -68,17 +73,19 @@ returns-2 c = let s = c .before .before .before .before .before .before .before 
     let p = c .before .before .before .before .before .before .before .before .before .before .before .before .before .before .before .before .before .before .before .before .before .before .before .before .before .before .before .before .before .before .pre in
     let m = c .before .before .before .before .before .enum-told .given .1 in
     let t = c .before .before .before .before .before .before .before .before .before .before .before .before .before .before .before .before .before .make-pair .ensures .1 m in
-    let v = rw (t .0, t .1) at (c .before .before .check .ensures) in
+    let v = c .before .before .check .ensures ∙ ap₂ (checkOf firstEdition s) (t .0) (t .1) in
     let g = c .enum-told3 .given .1 in
     rw g (refused-check firstEdition s out (p .0) (p .6) (sym (c .before .before .before .before .before .before .before .before .before .before .before .before .before .before .before .before .before .make-pair .ensures .0) ∙ m) _ (sym v ∙ g))
 
 put-plan-requires : tie.Need-put-plan-requires
-put-plan-requires c κs = let s = c .before .before .before .before .before .before .before .before .before .before .before .before .before .before .before .before .before .before .before .before .before .before .before .before .before .before .before .before .before .before .before .before .before .args .list .now in
-    let out = c .before .before .before .before .before .before .before .before .before .before .before .before .before .before .before .before .before .before .before .before .before .before .before .before .before .before .before .before .before .before .before .before .before .args .out .now in
+put-plan-requires c κs = let a = c .before .before .before .before .before .before .before .before .before .before .before .before .before .before .before .before .before .before .before .before .before .before .before .before .before .before .before .before .before .before .before .before .before .args in
     let p = c .before .before .before .before .before .before .before .before .before .before .before .before .before .before .before .before .before .before .before .before .before .before .before .before .before .before .before .before .before .before .before .before .before .pre in
-    let m = c .before .before .before .before .before .before .before .before .enum-told .given .1 in
-    let t = c .before .before .before .before .before .before .before .before .before .before .before .before .before .before .before .before .before .before .before .before .make-pair .ensures .1 m in
-    rw (t .0, t .1, built-lo-long s, built-hi-long s, list-length firstEdition s (p .0)) (omega (arith, p .6))
+    let low : length (a .low .now) ≡ slots (a .list .now) = ap length (p .1) ∙ length-replicate _ _ in
+    let left : length (a .left .now) ≡ slots (a .list .now) = ap length (p .3) ∙ length-replicate _ _ in
+    let lo : length (a .lo .now) ≡ slots (a .list .now) = ap length (p .4) ∙ length-replicate _ _ in
+    let hi : length (a .hi .now) ≡ slots (a .list .now) = ap length (p .5) ∙ length-replicate _ _ in
+    let list = list-length firstEdition (a .list .now) (p .0) in
+    omega (arith, p .6)
 
 same-length-11 : tie.Need-same-length-11
 same-length-11 c = search needs
@@ -105,10 +112,11 @@ returns-3 c = let s = c .before .before .before .before .before .before .before 
     let p = c .before .before .before .before .before .before .before .before .before .before .before .before .before .before .before .before .before .before .before .before .before .before .before .before .before .before .before .before .before .before .before .before .before .before .before .before .pre in
     let m = c .before .before .before .before .before .before .before .before .before .before .before .enum-told .given .1 in
     let t = c .before .before .before .before .before .before .before .before .before .before .before .before .before .before .before .before .before .before .before .before .before .before .before .make-pair .ensures .1 m in
-    let v = rw (t .0, t .1) at (c .before .before .before .before .before .before .before .before .check .ensures) in
+    let v = c .before .before .before .before .before .before .before .before .check .ensures ∙ ap₂ (checkOf firstEdition s) (t .0) (t .1) in
     let b = built firstEdition s out (p .0) (p .6) (sym (c .before .before .before .before .before .before .before .before .before .before .before .before .before .before .before .before .before .before .before .before .before .before .before .make-pair .ensures .0) ∙ m) (sym v ∙ c .before .before .before .before .before .before .enum-told2 .given .1) in
-    let w = rw (t .0, t .1) at (c .before .before .put-plan .ensures) in
-    (ap Plan (w .0) ∙ b .0, w .1 ∙ b .1)
+    let w = c .before .before .put-plan .ensures in
+    let e = ap₂ (planOf s) (t .0) (t .1) in
+    (ap Plan (w .0 ∙ ap length e) ∙ b .0, w .1 ∙ ap (put out 0) e ∙ b .1)
 
 pub build-in-spec : {M : Type 1} → statement M
 build-in-spec =

@@ -1,13 +1,13 @@
 -- `merge::make_pair` meets its contract.
 -- Assumes nothing.
-use Rattle.lotable.proofs.Laws.{lo-long}
 use mathlib.Core.Path.{_≡_, _∙_, sym, ap}
 use Prim.Native.Nat.{ℕ}
+use Rattle.joblist.specs.Fields.{slots}
 use lib.ListN.{length, length-replicate}
 use Rattle.merge.specs.Build.{pairOf, builtHi}
 use Rattle.late.proofs.First.{tlo-long, thi-long}
 use Rattle.lotable.specs.TableLo.{before, Tables, clashOf, tableLo}
-use Rattle.hitable.specs.TableHi.{tableHi}
+use Rattle.hitable.specs.TableHi.{hiAt, tableHi}
 use Rattle.merge.proofs.Laws.{made-fine}
 use borrow.Author.Needs.{needs}
 use native.Mathlib.Omega.{arith}
@@ -72,10 +72,13 @@ returns-2 c = let p = c .before .before .before .before .before .before .before 
     (rw (pairOf, ← lt .0, c .before .before .before .before .before .before .before .before .before .before .before .before .before .before .before .before .before .before .enum-told .given .1, clashOf, ← t) (c .before .before .clash-answer .ensures), λ e. let z : _≡_ {A = ℕ} 0 1 = cc in absurd (omega arith))
 
 table-hi-requires : tie.Need-table-hi-requires
-table-hi-requires c κs = let p = c .before .before .before .before .before .before .before .before .before .before .before .before .before .before .before .before .before .before .before .before .before .before .before .before .before .before .before .before .before .before .before .before .before .before .before .before .pre in
-    let lt = c .before .before .before .before .before .before .before .before .before .before .before .before .before .before .before .before .before .before .before .before .before .before .before .before .before .before .before .late-tables .ensures in
-    let n = ap length (p .4) ∙ length-replicate _ _ in
-    (p .0, ap (λ (x : Tables). length (x .lo)) (c .before .before .before .before .before .before .before .before .before .before .before .before .table-lo .ensures .1) ∙ lo-long _ _ _ ∙ n, ap length (lt .2) ∙ thi-long _, ap length (p .5) ∙ length-replicate _ _)
+table-hi-requires c κs = let a = c .before .before .before .before .before .before .before .before .before .before .before .before .before .before .before .before .before .before .before .before .before .before .before .before .before .before .before .before .before .before .before .before .before .before .before .before .args in
+    let p = c .before .before .before .before .before .before .before .before .before .before .before .before .before .before .before .before .before .before .before .before .before .before .before .before .before .before .before .before .before .before .before .before .before .before .before .before .pre in
+    let high : length (a .high .now) ≡ slots (a .list .now) = ap length (p .2) ∙ length-replicate _ _ in
+    let left : length (a .left .now) ≡ slots (a .list .now) = ap length (p .3) ∙ length-replicate _ _ in
+    let lo : length (a .lo .now) ≡ slots (a .list .now) = ap length (p .4) ∙ length-replicate _ _ in
+    let hi : length (a .hi .now) ≡ slots (a .list .now) = ap length (p .5) ∙ length-replicate _ _ in
+    (p .0, omega arith, omega arith, omega arith)
 
 same-length-7 : tie.Need-same-length-7
 same-length-7 c = search needs
@@ -102,7 +105,7 @@ returns-3 c = let a = c .before .before .before .before .before .before .before 
     let f = made-fine (c .before .before .before .before .before .before .before .before .before .before .before .before .before .before .before .table-lo .result) m in
     let k = rw (lt .1, c .before .before .before .before .before .before .before .before .before .before .before .before .before .before .before .before .before .before .before .before .before .copy-table .ensures, lt .2, p .4, f) at (c .before .before .before .before .before .before .before .before .before .before .before .before .before .before .before .table-lo .ensures .1) in
     let lo = ap (λ (x : Tables). x .lo) k in
-    (sym (rw (pairOf, ← lt .0, c .before .before .before .before .before .before .before .before .before .before .before .before .before .before .before .before .before .before .before .before .before .before .before .before .enum-told .given .1, clashOf, ← t) m), λ e. (lo, rw (lo, lt .2, p .5) at (c .before .before .table-hi .ensures)))
+    (sym (rw (pairOf, ← lt .0, c .before .before .before .before .before .before .before .before .before .before .before .before .before .before .before .before .before .before .before .before .before .before .before .before .enum-told .given .1, clashOf, ← t) m), λ e. (lo, c .before .before .table-hi .ensures ∙ (λ z. hiAt (a .list .now) (lo z) (lt .2 z) (p .5 z) (slots (a .list .now)) .table)))
 
 pub make-pair-spec : {M : Type 1} → statement M
 make-pair-spec =

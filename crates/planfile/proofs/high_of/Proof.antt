@@ -1,7 +1,9 @@
 -- `high_of` meets its contract: the part after the list and table LO, as many bytes as a table has.
 -- Assumes nothing.
 use borrow.Author.Needs.{needs}
-use mathlib.Core.Path.{_∙_, sym}
+use mathlib.Core.Path.{_∙_, sym, ap₂}
+use Prim.Native.Nat.{ℕ, _+_}
+use lib.ListN.{take, drop}
 use Rattle.planfile.proofs.Parts.{part-none, part-some}
 use Rattle.planfile.proofs.high_of.Statement.{statement}
 use Rattle.planfile.proofs.high_of.Tie as tie
@@ -18,11 +20,11 @@ part-result-end c = search needs
 returns : tie.Need-returns
 returns c = sym (part-none _ _ _ (c .before .if1 .taken))
 
-slots-of-requires : tie.Need-slots-of-requires
-slots-of-requires c κs = search needs
-
 low-at-requires : tie.Need-low-at-requires
 low-at-requires c κs = search needs
+
+slots-of-requires : tie.Need-slots-of-requires
+slots-of-requires c κs = search needs
 
 add-part : tie.Need-add-part
 add-part c = search needs
@@ -31,7 +33,8 @@ part-requires : tie.Need-part-requires
 part-requires c κs = search needs
 
 returns-2 : tie.Need-returns-2
-returns-2 c = c .part .ensures ∙ rw (c .before .low-at .ensures .0, c .before .before .slots-of .ensures .0) (sym (part-some _ _ _ (c .before .before .before .if1 .left)))
+returns-2 c = let s = c .before .before .before .before .before .args .plan .now in
+    c .part .ensures ∙ ap₂ (λ (at k : ℕ). take k (drop (at + k) s)) (c .before .before .low-at .ensures .0) (c .before .slots-of .ensures .0) ∙ sym (part-some s _ _ (c .before .before .before .if1 .left))
 
 pub high-of-spec : {M : Type 1} → statement M
 high-of-spec =
@@ -41,8 +44,8 @@ high-of-spec =
     part-result-start
     part-result-end
     returns
-    slots-of-requires
     low-at-requires
+    slots-of-requires
     add-part
     part-requires
     returns-2)

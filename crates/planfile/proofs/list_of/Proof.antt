@@ -1,7 +1,9 @@
 -- `list_of` meets its contract: the part at the front, as many bytes as the counts give.
 -- Assumes nothing.
 use borrow.Author.Needs.{needs}
-use mathlib.Core.Path.{_∙_, sym}
+use mathlib.Core.Path.{_∙_, sym, ap}
+use Prim.Native.Nat.{ℕ}
+use lib.ListN.{take, drop}
 use Rattle.planfile.proofs.Parts.{part-none, part-some}
 use Rattle.planfile.proofs.list_of.Statement.{statement}
 use Rattle.planfile.proofs.list_of.Tie as tie
@@ -25,7 +27,8 @@ part-requires : tie.Need-part-requires
 part-requires c κs = search needs
 
 returns-2 : tie.Need-returns-2
-returns-2 c = c .part .ensures ∙ rw (c .before .low-at .ensures .0) (sym (part-some _ _ _ (c .before .before .if1 .left)))
+returns-2 c = let s = c .before .before .before .before .args .plan .now in
+    c .part .ensures ∙ ap (λ (k : ℕ). take k (drop 0 s)) (c .before .low-at .ensures .0) ∙ sym (part-some s 0 _ (c .before .before .if1 .left))
 
 pub list-of-spec : {M : Type 1} → statement M
 list-of-spec =

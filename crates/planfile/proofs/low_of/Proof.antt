@@ -1,7 +1,9 @@
 -- `low_of` meets its contract: the part after the list, as many bytes as a table has.
 -- Assumes nothing.
 use borrow.Author.Needs.{needs}
-use mathlib.Core.Path.{_∙_, sym}
+use mathlib.Core.Path.{_∙_, sym, ap₂}
+use Prim.Native.Nat.{ℕ}
+use lib.ListN.{take, drop}
 use Rattle.planfile.proofs.Parts.{part-none, part-some}
 use Rattle.planfile.proofs.low_of.Statement.{statement}
 use Rattle.planfile.proofs.low_of.Tie as tie
@@ -28,7 +30,8 @@ part-requires : tie.Need-part-requires
 part-requires c κs = search needs
 
 returns-2 : tie.Need-returns-2
-returns-2 c = c .part .ensures ∙ rw (c .before .before .low-at .ensures .0, c .before .slots-of .ensures .0) (sym (part-some _ _ _ (c .before .before .before .if1 .left)))
+returns-2 c = let s = c .before .before .before .before .before .args .plan .now in
+    c .part .ensures ∙ ap₂ (λ (at k : ℕ). take k (drop at s)) (c .before .before .low-at .ensures .0) (c .before .slots-of .ensures .0) ∙ sym (part-some s _ _ (c .before .before .before .if1 .left))
 
 pub low-of-spec : {M : Type 1} → statement M
 low-of-spec =
