@@ -23,11 +23,11 @@ use Rattle.merge.specs.Numbers.{builtNumber, builtPlace}
 use Rattle.merge.specs.declared.BuildPlace.{BuildPlace}
 use Rattle.merge.specs.declared.BuildPlace.the-variants.{InList, AtSlot}
 use Rattle.merge.specs.declared.Built.the-variants.{Plan}
-use Rattle.dispatch.specs.Machine.{stepOf}
-use Rattle.dispatch.specs.Numbers.{answerNumber as stepNumber}
+use Rattle.dispatch.specs.State.{stepOf}
+use Rattle.machine.specs.Numbers.{answerNumber as stepNumber}
 use Rattle.dispatch.specs.Open.{openOf}
-use Rattle.dispatch.specs.declared.answer.Answer.{Answer}
-use Rattle.dispatch.specs.declared.answer.Answer.the-variants.{Order, No}
+use Rattle.machine.specs.declared.answer.Answer.{Answer}
+use Rattle.machine.specs.declared.answer.Answer.the-variants.{Order, No}
 use Rattle.dispatch.specs.declared.state.State.{State}
 use Rattle.dispatch.specs.declared.state.Stepped.{Stepped}
 
@@ -68,7 +68,7 @@ orderIn (No w) = none
 -- what a step with a tick shows
 abbrev pub shown : ℕ → Stepped → Step
 shown tick x =
-    record { tick = tick; number = stepNumber (x .answer); order = orderIn (x .answer); slot = x .state .slot }
+    record { tick = tick; number = stepNumber (x .answer); order = orderIn (x .answer); slot = x .state .head .slot }
 
 -- the steps from a state on with the ticks of a list, without a signal
 abbrev pub stepsFrom : State → List Step → List Step

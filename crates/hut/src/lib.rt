@@ -69,7 +69,7 @@ pub struct Moved {
 
 impl Answer {
     // What an answer has not got; as a switch slot it is document 01's own mark of no switch.
-    pub const ABSENT: usize = 65535;
+    pub const ABSENT: usize = verdict::Verdict::NO_SWITCH;
 }
 
 // The check of a list and two tables.
