@@ -20,30 +20,33 @@ use Rattle.verdict.specs.Count.{entriesIn, entryAt}
 use Rattle.witness.specs.Needs.{ended, needOf, needsTo}
 
 module _ (s lo : List ℕ) (x j : ℕ) where
-  -- the job that switched has not ended; another has where it had its CLO units
-  pub ended-own : j ≡ entryAt lo x → false ≡ ended s lo x j
-  unfolding ended
-  ended-own h = sym (ap (λ (b : Bool). not b && leb (ordinary s j) (entriesIn lo j (x + 1))) (eq-eqb j (entryAt lo x) h))
+  abbrev keeps : Bool
+  keeps = eqb x noSwitch || ended s lo x j
 
-  pub ended-other : ¬ (j ≡ entryAt lo x) → leb (ordinary s j) (entriesIn lo j (x + 1)) ≡ ended s lo x j
-  unfolding ended
-  ended-other h = sym (ap (λ (b : Bool). not b && leb (ordinary s j) (entriesIn lo j (x + 1))) (ne-eqb j (entryAt lo x) h))
-
-  -- with no switch, and behind one
-  pub need-first : x ≡ noSwitch → ordinary s j ≡ needOf s lo x j
-  unfolding needOf
-  need-first h = sym (pick-true _ (ordinary s j) (high s j) (ap (λ (b : Bool). b || ended s lo x j) (eq-eqb x noSwitch h)))
+  -- with no switch each keeps to CLO; behind one, the job that switched does not, and another does where it had its CLO units
+  pub keeps-first : x ≡ noSwitch → true ≡ keeps
+  keeps-first h = sym (ap (λ (b : Bool). b || ended s lo x j) (eq-eqb x noSwitch h))
 
   module _ (h : ¬ (x ≡ noSwitch)) where
-    behind : needOf s lo x j ≡ pick (ended s lo x j) (ordinary s j) (high s j)
-    unfolding needOf
-    behind = ap (λ (b : Bool). pick (b || ended s lo x j) (ordinary s j) (high s j)) (ne-eqb x noSwitch h)
+    keeps-behind : keeps ≡ ended s lo x j
+    keeps-behind = ap (λ (b : Bool). b || ended s lo x j) (ne-eqb x noSwitch h)
 
-    pub need-ended : ended s lo x j ≡ true → ordinary s j ≡ needOf s lo x j
-    need-ended e = sym (behind ∙ pick-true _ (ordinary s j) (high s j) e)
+    pub keeps-own : j ≡ entryAt lo x → false ≡ keeps
+    unfolding ended
+    keeps-own e = sym (keeps-behind ∙ ap (λ (b : Bool). not b && leb (ordinary s j) (entriesIn lo j (x + 1))) (eq-eqb j (entryAt lo x) e))
 
-    pub need-more : ended s lo x j ≡ false → high s j ≡ needOf s lo x j
-    need-more e = sym (behind ∙ pick-false _ (ordinary s j) (high s j) e)
+    pub keeps-other : ¬ (j ≡ entryAt lo x) → leb (ordinary s j) (entriesIn lo j (x + 1)) ≡ keeps
+    unfolding ended
+    keeps-other e = sym (keeps-behind ∙ ap (λ (b : Bool). not b && leb (ordinary s j) (entriesIn lo j (x + 1))) (ne-eqb j (entryAt lo x) e))
+
+  -- what it needs
+  pub need-clo : true ≡ keeps → ordinary s j ≡ needOf s lo x j
+  unfolding needOf
+  need-clo e = sym (pick-true keeps (ordinary s j) (high s j) (sym e))
+
+  pub need-chi : false ≡ keeps → high s j ≡ needOf s lo x j
+  unfolding needOf
+  need-chi e = sym (pick-false keeps (ordinary s j) (high s j) (sym e))
 
 module _ (k : ℕ) (s lo : List ℕ) (x : ℕ) where
   pub needs-none : replicate k 0 ≡ needsTo k s lo x 0

@@ -1,6 +1,5 @@
 -- What a witness says: where the check names a fault, the needs are those of a real execution that is bad there.
 -- Assumes nothing.
-use mathlib.Core.Bool.{false, true}
 use mathlib.Core.List.{List, [], _∷_}
 use mathlib.Core.Path.{_∙_, _≡_, ap, ap₂, refl, sym}
 use Prim.Native.Nat.{_+_, _<_, _≤_, suc, ℕ}
@@ -31,9 +30,9 @@ use Rattle.verdict.specs.declared.Objection.the-variants.{Bad, Entry, OfList, S
 use Rattle.verdict.specs.declared.Verdict.{Verdict}
 use Rattle.verdict.specs.declared.Verdict.the-variants.{No, Yes}
 use Rattle.witness.proofs.Again.{again}
-use Rattle.witness.proofs.Filled.{ended-other, ended-own, need-ended, need-first, need-more, needs-at}
+use Rattle.witness.proofs.Filled.{keeps-first, keeps-other, keeps-own, need-chi, need-clo, needs-at}
 use Rattle.witness.proofs.TwoNeeds.{NeedAt, Needs, behind, had, more, needs-of, ordinary as all-ordinary, own}
-use Rattle.witness.specs.Needs.{ended, needOf, needsBehind, needsTo, saying, switchIn, witnessOf}
+use Rattle.witness.specs.Needs.{needOf, needsBehind, needsTo, saying, switchIn, witnessOf}
 use Rattle.witness.specs.Night.{Night, Witnessed}
 
 switch-of : (t x : ℕ) (w : Badness) → switchIn (faultOf t x w) ≡ x
@@ -101,15 +100,15 @@ module _ (lim : Limits) (s lo hi : List ℕ) where
       counted = entries-all lo i (x + 1) (omega (arith, l, input .low .size)) ∙ ap (entriesBefore (entryAt lo) i) (let e : x + 1 ≡ suc x = omega arith in e)
 
       need-behind : NeedAt F W refl x i v → v ≡ needOf s lo x i
-      need-behind (own p e) = e ∙ need-more s lo x i not-mark (sym (ended-own s lo x i p))
-      need-behind (had p h e) = e ∙ need-ended s lo x i not-mark (sym (ended-other s lo x i p) ∙ le-leb (ordinary s i) (entriesIn lo i (x + 1)) (omega (arith, h, counted)))
-      need-behind (more p h e) = e ∙ need-more s lo x i not-mark (sym (ended-other s lo x i p) ∙ lt-leb (ordinary s i) (entriesIn lo i (x + 1)) (omega (arith, h, counted)))
+      need-behind (own p e) = e ∙ need-chi s lo x i (keeps-own s lo x i not-mark p)
+      need-behind (had p h e) = e ∙ need-clo s lo x i (sym (le-leb (ordinary s i) (entriesIn lo i (x + 1)) (omega (arith, h, counted))) ∙ keeps-other s lo x i not-mark p)
+      need-behind (more p h e) = e ∙ need-chi s lo x i (sym (lt-leb (ordinary s i) (entriesIn lo i (x + 1)) (omega (arith, h, counted))) ∙ keeps-other s lo x i not-mark p)
 
     demand-is : (i : ℕ) → i < jobs s → demand i ≡ needOf s lo (switchIn f) i
     demand-is i a = go needed
       where
         go : Needs F W refl (found-by .fault) demand → demand i ≡ needOf s lo (switchIn f) i
-        go (all-ordinary e c) = c i ∙ need-first s lo (switchIn f) i (switch-is ∙ ap switchOf e)
+        go (all-ordinary e c) = c i ∙ need-clo s lo (switchIn f) i (keeps-first s lo (switchIn f) i (switch-is ∙ ap switchOf e))
         go (behind x e l c) = need-behind x i (demand i) l (c i a) ∙ ap (λ (z : ℕ). needOf s lo z i) (sym (switch-is ∙ ap switchOf e))
 
     abbrev needs : List ℕ

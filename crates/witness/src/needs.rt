@@ -1,7 +1,10 @@
 // What each job needs in the execution that goes wrong. All but the struct is inner.
 ghost use mathlib.Core.Path.{_≡_};
+ghost use mathlib.Core.Bool.{_||_};
 ghost use Prim.Native.Nat.{_+_, _<_, _≤_};
 ghost use lib.ListN.{length, replicate};
+ghost use lib.Dec.{eqb};
+ghost use Rattle.basics.specs.Choice.{pick};
 ghost use Rattle.basics.specs.Limits.{firstEdition};
 ghost use Rattle.basics.specs.Marks.{noSwitch};
 ghost use Rattle.joblist.specs.Fields.{jobAt, jobBytes};
@@ -31,15 +34,29 @@ pub(crate) fn switch_in(f: Fault) -> usize
     }
 }
 
-// Whether job j had all it needs when the job of slot x in table LO switched.
-fn had_ended(list: &[u8], lo: &[u8], x: usize, j: usize) -> bool
-    requires { ⌜ (jobAt j + jobBytes ≤ length (now list)) × (x < noSwitch) ⌝ }
-    ensures { λ r. ⌜ r ≡ ended (now (list .entry)) (now (lo .entry)) x j ⌝ }
+// Whether job j needs no more than CLO: there is no switch, or it had ended when the job of slot x in table LO switched.
+fn keeps_clo(list: &[u8], lo: &[u8], x: usize, j: usize) -> bool
+    requires { ⌜ (jobAt j + jobBytes ≤ length (now list)) × (x ≤ noSwitch) ⌝ }
+    ensures { λ r. ⌜ r ≡ (eqb x noSwitch || ended (now (list .entry)) (now (lo .entry)) x j) ⌝ }
 {
+    if x == Verdict::NO_SWITCH {
+        return true;
+    }
     if j == entry_at(lo, x) {
         return false;
     }
     ordinary_of(list, j) <= entries_before(lo, j, x + 1)
+}
+
+// CLO or CHI, as wide as a budget is.
+fn clo_or_chi(keeps: bool, clo: usize, chi: usize) -> u16
+    requires { ⌜ (clo < 65536) × (chi < 65536) ⌝ }
+    ensures { λ r. ⌜ r ≡ pick keeps clo chi ⌝ }
+{
+    if keeps {
+        return clo as u16;
+    }
+    chi as u16
 }
 
 // What job j needs, where the switch is at x.
@@ -47,13 +64,11 @@ fn need_of(list: &[u8], lo: &[u8], x: usize, j: usize) -> u16
     requires { ⌜ (jobAt j + jobBytes ≤ length (now list)) × (x ≤ noSwitch) ⌝ }
     ensures { λ r. ⌜ r ≡ needOf (now (list .entry)) (now (lo .entry)) x j ⌝ }
 {
-    if x == Verdict::NO_SWITCH {
-        return ordinary_of(list, j) as u16;
-    }
-    if had_ended(list, lo, x, j) {
-        return ordinary_of(list, j) as u16;
-    }
-    high_of(list, j) as u16
+    clo_or_chi(
+        keeps_clo(list, lo, x, j),
+        ordinary_of(list, j),
+        high_of(list, j),
+    )
 }
 
 // What each of n jobs needs; zeros past them.
