@@ -161,6 +161,52 @@ pub(crate) fn show(path: &[u8], from: &[u8], is_svg: bool) {
     }
 }
 
+// There is no such night: a picture of it is none either.
+fn say_good(path: &[u8], is_svg: bool) {
+    if is_svg {
+        complain(plans::put_good(Page::errors(), path));
+        return;
+    }
+    send(plans::put_good(Page::output(), path));
+}
+
+// The night behind a plan's fault, in words or as a picture.
+fn tell_night(plan: &[u8], names: Names, is_svg: bool) {
+    if !plans::is_whole(plan) {
+        refuse(plan, names);
+        return;
+    }
+    if is_svg {
+        send(nightpicture::put_picture(Page::output(), plan, names));
+        refuse(plan, names);
+        return;
+    }
+    let page = plans::put_fault(Page::output(), plan, names);
+    send(nights::put_night(page, plan, names));
+}
+
+fn why_plan(path: &[u8], from: &[u8], plan: &[u8], is_svg: bool) {
+    if plans::is_accepted(plan) {
+        say_good(path, is_svg);
+        return;
+    }
+    let named = names_of(from, plan);
+    if named.is_read {
+        let names = named.names;
+        tell_night(plan, names, is_svg);
+        note(named.is_other);
+    }
+}
+
+// desk why PLAN [JOBS] [--svg]
+pub(crate) fn why(path: &[u8], from: &[u8], is_svg: bool) {
+    let file = files::read(path);
+    if file.is_read {
+        let bytes = file.bytes;
+        why_plan(path, from, part(&bytes, 0, file.size), is_svg);
+    }
+}
+
 fn list_plan(plan: &[u8]) {
     if plans::is_whole(plan) {
         send(jobtext::put_list(Page::output(), list_of(plan)));

@@ -21,6 +21,18 @@ fn show(b: &[u8], c: &[u8], d: &[u8]) {
     commands::show(b, c, is(d, b"--svg"));
 }
 
+fn why(b: &[u8], c: &[u8], d: &[u8]) {
+    if is(b, b"--svg") {
+        commands::why(c, d, true);
+        return;
+    }
+    if is(c, b"--svg") {
+        commands::why(b, d, true);
+        return;
+    }
+    commands::why(b, c, is(d, b"--svg"));
+}
+
 fn run(b: &[u8], c: &[u8], d: &[u8], e: &[u8]) {
     if is(c, b"--demo") {
         commands::run(b, d, true, e);
@@ -50,6 +62,10 @@ fn on_plan(a: &[u8], b: &[u8], c: &[u8], d: &[u8], e: &[u8]) {
     }
     if is(a, b"show") {
         show(b, c, d);
+        return;
+    }
+    if is(a, b"why") {
+        why(b, c, d);
         return;
     }
     if is(a, b"list") {

@@ -9,7 +9,9 @@ ghost use Rattle.dispatch.specs.Marks.{isSet};
 ghost use Rattle.dispatch.specs.Machine.{stepOf};
 ghost use Rattle.dispatch.specs.Open.{openOf};
 ghost use Rattle.hut.specs.Calls.{checkAnswer, readResult, writeAnswer, buildAnswer, stepAnswer, running, opened};
+ghost use Rattle.hut.specs.Why.{whyAnswer, whyNeeds};
 use dispatch::state::State;
+use joblist::MOST_JOBS;
 
 mod answers;
 
@@ -123,4 +125,16 @@ pub extern "C" fn hut_step(s: &mut State, tick: u16, ended: u8) -> Answer
     let o = step_value(*s, tick, ended);
     *s = o.state;
     o.answer
+}
+
+// The check, and behind a fault what each job needs in an execution that goes wrong as it says: every entry of `needs`.
+#[no_mangle]
+pub extern "C" fn hut_why(list: &[u8], lo: &[u8], hi: &[u8], needs: &mut [u16; MOST_JOBS]) -> Answer
+    ensures { λ r. ⌜ (r ≡ whyAnswer firstEdition (now (list .entry)) (now (lo .entry)) (now (hi .entry)))
+        × (now (needs .exit) ≡ whyNeeds firstEdition (now (list .entry)) (now (lo .entry)) (now (hi .entry))) ⌝ }
+{
+    let w = witness::witness(list, lo, hi);
+    let v = w.verdict;
+    *needs = w.needs;
+    answers::check_answer(v)
 }
