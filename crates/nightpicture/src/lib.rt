@@ -34,7 +34,7 @@ const STYLE: [u8; 145] =
 ";
 
 // The room for a job's need to the right of its row, and for the fault in words under the rows.
-const NEED: usize = 190;
+const NEED: usize = 230;
 
 const UNDER: usize = 28;
 
@@ -49,16 +49,16 @@ fn need(page: Page, plan: &[u8], sheet: Sheet, night: Night, j: usize) -> Page {
     text_end(budgets(to, list, j))
 }
 
+// A row: the name, the window and the need.
+fn row(page: Page, plan: &[u8], names: Names, sheet: Sheet, night: Night, j: usize) -> Page {
+    let to = window_row(page, plan, names, sheet, false, j);
+    need(to, plan, sheet, night, j)
+}
+
 fn rows(page: Page, plan: &[u8], names: Names, sheet: Sheet, night: Night) -> Page {
     let mut to = page;
     for j in 0..sheet.rows {
-        to = need(
-            window_row(to, plan, names, sheet, false, j),
-            plan,
-            sheet,
-            night,
-            j,
-        );
+        to = row(to, plan, names, sheet, night, j);
     }
     to
 }
