@@ -1,4 +1,4 @@
-/* The slot desk for firmware: build, check, read, write, open and step, over bytes that the caller lends
+/* The slot desk for firmware: build, check, why, read, write, open and step, over bytes that the caller lends
  * and one state that the caller keeps.
  *
  * Link libhut.a, which `rt staticlib hut` writes (x86-64). Every promise below is the contract of a proved
@@ -11,7 +11,8 @@
  *
  * What the caller owes:
  * - a pointer is never NULL, also where its length is 0, and that many bytes behind it may be read;
- * - the bytes of `out` may be written, and none of them is also lent as another argument of that call;
+ * - the bytes of `out` and of `needs` may be written, and none of them is also lent as another argument of
+ *   that call;
  * - nobody else reads or writes lent bytes, or the state, while the call runs.
  */
 #ifndef HUT_H
@@ -29,6 +30,9 @@ extern "C" {
 
 /* No job: in a table, and as an order. */
 #define HUT_IDLE 255
+
+/* The most jobs of a list. */
+#define HUT_MOST_JOBS 64
 
 /* The bytes of a list of n jobs and m edges, and the bytes of the longest plan. */
 #define HUT_LIST_BYTES(n, m) (8 + 10 * (size_t)(n) + 2 * (size_t)(m))
@@ -121,6 +125,13 @@ struct hut_answer hut_build(const uint8_t *list, size_t list_bytes, uint8_t *out
  * Else a list's number, 43, 45, or 10 to 12 with the place where a real execution goes wrong. */
 struct hut_answer hut_check(const uint8_t *list, size_t list_bytes, const uint8_t *lo, size_t lo_bytes,
                             const uint8_t *hi, size_t hi_bytes);
+
+/* The check, and the night on which it goes wrong. The answer is hut_check's. Where its number is 10, 11 or 12,
+ * needs[j] is how many units job j needs in a real execution that is bad as the answer says: at its slot, with
+ * its job and predecessor, after its switch. Of the entries from the job count on, and of all of them where the
+ * answer is any other, each is 0. So every one of the HUT_MOST_JOBS entries is written, whatever it was. */
+struct hut_answer hut_why(const uint8_t *list, size_t list_bytes, const uint8_t *lo, size_t lo_bytes,
+                          const uint8_t *hi, size_t hi_bytes, uint16_t needs[HUT_MOST_JOBS]);
 
 /* What the bytes are: 0 for a plan that passes the check, with its counts; or the first number in the order
  * 40 to 42, the list's, 45, 10 to 12. On 0 the plan has the list first, HUT_LIST_BYTES(jobs, edges) bytes,

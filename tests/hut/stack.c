@@ -11,6 +11,7 @@
 enum { ROOM = 1 << 20, FILL = 0xA5, JOBS = 64, SLOTS = 1024, MOST_EDGES = 256 };
 
 static uint8_t list[HUT_LIST_BYTES(JOBS, MOST_EDGES)], plan[HUT_MOST_PLAN_BYTES], out[HUT_MOST_PLAN_BYTES];
+static uint16_t needs[HUT_MOST_JOBS];
 static size_t list_bytes, plan_bytes;
 static struct hut_state state;
 
@@ -19,6 +20,14 @@ static struct hut_answer check(void)
 {
     const uint8_t *lo = plan + list_bytes;
     return hut_check(list, list_bytes, lo, SLOTS, lo + SLOTS, SLOTS);
+}
+/* With table HI all idle the first switch goes wrong: 10 is what is expected, and counts as 0. */
+static struct hut_answer why(void)
+{
+    memset(out, HUT_IDLE, SLOTS);
+    struct hut_answer a = hut_why(list, list_bytes, plan + list_bytes, SLOTS, out, SLOTS, needs);
+    a.number = a.number != 10;
+    return a;
 }
 static struct hut_answer read_plan(void) { return hut_read(plan, plan_bytes).answer; }
 static struct hut_answer write_plan(void)
@@ -37,7 +46,7 @@ static struct hut_answer step(void) { return hut_step(&state, 0, 0); }
 static const struct {
     const char *name;
     struct hut_answer (*call)(void);
-} calls[] = {{"build", build}, {"check", check}, {"read", read_plan}, {"write", write_plan}, {"open", open_plan}, {"step", step}};
+} calls[] = {{"build", build}, {"check", check}, {"why", why}, {"read", read_plan}, {"write", write_plan}, {"open", open_plan}, {"step", step}};
 
 /* 64 high jobs with all the time there is, each before the next four: 246 edges. */
 static void put_list(void)

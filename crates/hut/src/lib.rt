@@ -135,6 +135,7 @@ pub extern "C" fn hut_why(list: &[u8], lo: &[u8], hi: &[u8], needs: &mut [u16; M
 {
     let w = witness::witness(list, lo, hi);
     let v = w.verdict;
-    *needs = w.needs;
+    let each = w.needs;
+    *needs = each;
     answers::check_answer(v)
 }
