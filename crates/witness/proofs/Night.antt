@@ -7,7 +7,7 @@ use native.Mathlib.Omega.{arith}
 use borrow.Author.Tests.{le-leb, lt-leb}
 use lib.ListN.{length, replicate}
 use Rattle.basics.specs.Below.{entriesBefore}
-use Rattle.basics.specs.Limits.{Limits}
+use Rattle.basics.specs.Limits.{Limits, firstEdition}
 use Rattle.basics.specs.Marks.{noSwitch}
 use Rattle.basics.specs.Units.{unitsOf}
 use Rattle.frame.proofs.Sound.{Shown, shown}
@@ -139,3 +139,7 @@ module _ (lim : Limits) (s lo hi : List ℕ) where
     night = λ f y. rw y (night small f y);
     none = no-fault (checkOf lim s lo hi);
   }
+
+-- the first edition, on every input
+pub first-witnessed : (s lo hi : List ℕ) → Witnessed firstEdition s lo hi
+first-witnessed s lo hi = witnessed firstEdition s lo hi (omega arith)
