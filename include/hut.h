@@ -1,10 +1,10 @@
-/* The slot desk for firmware: build, check, read, write, open and step, over bytes that the caller lends
+/* The slot desk for firmware: build, check, why, read, write, open and step, over bytes that the caller lends
  * and one state that the caller keeps.
  *
  * Link libhut.a: `rt staticlib hut` writes it for x86-64, `tools/hut-for` for 64-bit Arm and RISC-V as well.
- * Every promise below is the contract of a proved
- * function: crates/hut/src/lib.rt has it, and crates/hut/specs/Calls.antt says what each answer is. What is
- * not proved is the compiler's back end, and that the caller keeps to "What the caller owes".
+ * Every promise below is the contract of a proved function: crates/hut/src/lib.rt has it, and
+ * crates/hut/specs/Calls.antt says what each answer is. What is not proved is the compiler's back end, and
+ * that the caller keeps to "What the caller owes".
  *
  * No call allocates, keeps anything between calls, reads a clock or writes a file. Each call ends, and
  * answers on every input: any bytes, any lengths, any ticks, any end marks, any bytes as a state. Of C's
@@ -12,7 +12,8 @@
  *
  * What the caller owes:
  * - a pointer is never NULL, also where its length is 0, and that many bytes behind it may be read;
- * - the bytes of `out` may be written, and none of them is also lent as another argument of that call;
+ * - the bytes of `out` and of `needs` may be written, and none of them is also lent as another argument of
+ *   that call;
  * - the state that hut_step is given may be read and written, all HUT_STATE_BYTES of it, and stands at an
  *   address that is a multiple of 2, as a struct hut_state does;
  * - nobody else reads or writes lent bytes, or the state, while the call runs.
@@ -33,6 +34,9 @@ extern "C" {
 /* No job: in a table, and as an order. */
 #define HUT_IDLE 255
 
+/* The most jobs of a list. */
+#define HUT_MOST_JOBS 64
+
 /* The bytes of a list of n jobs and m edges, and the bytes of the longest plan. */
 #define HUT_LIST_BYTES(n, m) (8 + 10 * (size_t)(n) + 2 * (size_t)(m))
 #define HUT_MOST_PLAN_BYTES 3216
@@ -41,6 +45,7 @@ extern "C" {
  * slots, on each processor, less what a thread takes that does nothing. A step's does not grow with the sizes. */
 #define HUT_STACK_BUILD 24576
 #define HUT_STACK_CHECK 12288
+#define HUT_STACK_WHY 12288
 #define HUT_STACK_READ 12288
 #define HUT_STACK_WRITE 12288
 #define HUT_STACK_OPEN 20480
@@ -135,6 +140,13 @@ struct hut_answer hut_build(const uint8_t *list, size_t list_bytes, uint8_t *out
  * Else a list's number, 43, 45, or 10 to 12 with the place where a real execution goes wrong. */
 struct hut_answer hut_check(const uint8_t *list, size_t list_bytes, const uint8_t *lo, size_t lo_bytes,
                             const uint8_t *hi, size_t hi_bytes);
+
+/* The check, and the night on which it goes wrong. The answer is hut_check's. Where its number is 10, 11 or 12,
+ * needs[j] is how many units job j needs in a real execution that is bad as the answer says: at its slot, with
+ * its job and predecessor, after its switch. Of the entries from the job count on, and of all of them where the
+ * answer is any other, each is 0. So every one of the HUT_MOST_JOBS entries is written, whatever it was. */
+struct hut_answer hut_why(const uint8_t *list, size_t list_bytes, const uint8_t *lo, size_t lo_bytes,
+                          const uint8_t *hi, size_t hi_bytes, uint16_t needs[HUT_MOST_JOBS]);
 
 /* What the bytes are: 0 for a plan that passes the check, with its counts; or the first number in the order
  * 40 to 42, the list's, 45, 10 to 12. On 0 the plan has the list first, HUT_LIST_BYTES(jobs, edges) bytes,

@@ -1,4 +1,4 @@
-/* The hut's library, worked through: list A of the paper is built, checked, read, written, opened and run.
+/* The hut's library, worked through: list A of the paper is built, checked, asked why, read, written, opened and run.
  * Each answer is compared with the paper's. The last line counts. */
 #include "hut.h"
 
@@ -145,6 +145,50 @@ static void checking(void)
     expect("a level over 1 is 6, job 1", is(hut_check(level, 28, lo, 5, hi, 5), 6, NO, NO, 1, NO, NO, NO));
 }
 
+/* What two jobs need, and 0 in every other entry. */
+static int need(const uint16_t *needs, uint16_t first, uint16_t second)
+{
+    int good = needs[0] == first && needs[1] == second;
+    for (size_t j = 2; j < HUT_MOST_JOBS; j++) {
+        good = good && needs[j] == 0;
+    }
+    return good;
+}
+
+/* The needs, with entries around them that no call may touch. */
+struct lent {
+    uint16_t before[8];
+    uint16_t needs[HUT_MOST_JOBS];
+    uint16_t after[8];
+};
+
+static void asking_why(void)
+{
+    static const uint8_t lo[5] = {1, 1, 0, 255, 255};
+    static const uint8_t p8[5] = {0, 0, 0, 255, 255};
+    static const uint8_t idle[5] = {255, 255, 255, 255, 255};
+    static const uint8_t hi[5] = {1, 1, 0, 0, 0};
+    struct lent l;
+    memset(&l, 0xAA, sizeof l);
+    struct hut_answer a = hut_why(list_a, 28, lo, 5, p8, 5, l.needs);
+    expect("P8: why answers as the check does", is(a, 10, NO, 5, 0, NO, 2, NO) && a.order == NO && a.length == NO);
+    expect("P8: job 0 needs its CHI of 3, and job 1, which has ended, its 2", need(l.needs, 3, 2));
+
+    uint8_t p9[30];
+    memcpy(p9, list_a, sizeof list_a);
+    p9[2] = 1;
+    p9[28] = 0;
+    p9[29] = 1;
+    a = hut_why(p9, 30, lo, 5, idle, 5, l.needs);
+    expect("P9: 12, and with no switch each job needs CLO", is(a, 12, NO, 0, 1, 0, HUT_ABSENT, NO) && need(l.needs, 1, 2));
+
+    memset(l.needs, 0xAA, sizeof l.needs);
+    expect("P1: yes, and no needs", bare(hut_why(list_a, 28, lo, 5, hi, 5, l.needs), 0) && need(l.needs, 0, 0));
+    memset(l.needs, 0xAA, sizeof l.needs);
+    expect("no bytes are 40, and no needs", bare(hut_why(list_a, 0, lo, 5, hi, 5, l.needs), 40) && need(l.needs, 0, 0));
+    expect("nothing around the needs is touched", all(l.before, 0, sizeof l.before, 0xAA) && all(l.after, 0, sizeof l.after, 0xAA));
+}
+
 static void reading_and_writing(void)
 {
     struct hut_read_result r = hut_read(plan_a, sizeof plan_a);
@@ -261,6 +305,7 @@ int main(void)
 {
     building();
     checking();
+    asking_why();
     reading_and_writing();
     running();
     the_state();

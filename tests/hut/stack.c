@@ -12,6 +12,7 @@
 enum { ROOM = 1 << 20, FILL = 0xA5, JOBS = 64, SLOTS = 1024, MOST_EDGES = 256 };
 
 static uint8_t list[HUT_LIST_BYTES(JOBS, MOST_EDGES)], plan[HUT_MOST_PLAN_BYTES], out[HUT_MOST_PLAN_BYTES];
+static uint16_t needs[HUT_MOST_JOBS];
 static size_t list_bytes, plan_bytes;
 static struct hut_running running;
 
@@ -20,6 +21,14 @@ static struct hut_answer check(void)
 {
     const uint8_t *lo = plan + list_bytes;
     return hut_check(list, list_bytes, lo, SLOTS, lo + SLOTS, SLOTS);
+}
+/* With table HI all idle the first switch goes wrong: 10 is what is expected, and counts as 0. */
+static struct hut_answer why(void)
+{
+    memset(out, HUT_IDLE, SLOTS);
+    struct hut_answer a = hut_why(list, list_bytes, plan + list_bytes, SLOTS, out, SLOTS, needs);
+    a.number = a.number != 10;
+    return a;
 }
 static struct hut_answer read_plan(void) { return hut_read(plan, plan_bytes).answer; }
 static struct hut_answer write_plan(void)
@@ -48,6 +57,7 @@ static const struct {
     {"nothing", nothing, ROOM},
     {"hut_build", build, HUT_STACK_BUILD},
     {"hut_check", check, HUT_STACK_CHECK},
+    {"hut_why", why, HUT_STACK_WHY},
     {"hut_read", read_plan, HUT_STACK_READ},
     {"hut_write", write_plan, HUT_STACK_WRITE},
     {"hut_open", open_plan, HUT_STACK_OPEN},

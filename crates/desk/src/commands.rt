@@ -143,21 +143,54 @@ fn draw(plan: &[u8], names: Names, is_svg: bool) {
     send(plans::put_show(Page::output(), plan, names));
 }
 
-fn show_plan(from: &[u8], plan: &[u8], is_svg: bool) {
-    let named = names_of(from, plan);
-    if named.is_read {
-        let names = named.names;
-        draw(plan, names, is_svg);
-        note(named.is_other);
+// There is no such night, and so no picture either.
+fn say_good(path: &[u8], is_svg: bool) {
+    if is_svg {
+        complain(plans::put_good(Page::errors(), path));
+        return;
     }
+    send(plans::put_good(Page::output(), path));
 }
 
-// desk show PLAN [JOBS] [--svg]
-pub(crate) fn show(path: &[u8], from: &[u8], is_svg: bool) {
+// The night on which a plan goes wrong, in words or as a picture.
+fn tell_night(path: &[u8], plan: &[u8], names: Names, is_svg: bool) {
+    if plans::is_accepted(plan) {
+        say_good(path, is_svg);
+        return;
+    }
+    if !plans::is_whole(plan) {
+        refuse(plan, names);
+        return;
+    }
+    if is_svg {
+        send(nightpicture::put_picture(Page::output(), plan, names));
+        refuse(plan, names);
+        return;
+    }
+    let page = plans::put_fault(Page::output(), plan, names);
+    send(nights::put_night(page, plan, names));
+}
+
+fn show_plan(path: &[u8], from: &[u8], plan: &[u8], is_svg: bool, is_why: bool) {
+    let named = names_of(from, plan);
+    let names = named.names;
+    if !named.is_read {
+        return;
+    }
+    if is_why {
+        tell_night(path, plan, names, is_svg);
+    } else {
+        draw(plan, names, is_svg);
+    }
+    note(named.is_other);
+}
+
+// desk show PLAN [JOBS] [--svg], and desk why PLAN [JOBS] [--svg]
+pub(crate) fn show(path: &[u8], from: &[u8], is_svg: bool, is_why: bool) {
     let file = files::read(path);
     if file.is_read {
         let bytes = file.bytes;
-        show_plan(from, part(&bytes, 0, file.size), is_svg);
+        show_plan(path, from, part(&bytes, 0, file.size), is_svg, is_why);
     }
 }
 

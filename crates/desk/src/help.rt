@@ -2,12 +2,13 @@
 use files::send;
 use page::Page;
 
-const HELP: [u8; 1110] = *b"desk: plans for jobs of two levels, in slots
+const HELP: [u8; 1192] = *b"desk: plans for jobs of two levels, in slots
 
   desk demo                       the whole story on a small list
   desk build JOBS PLAN            build the plan of a text job list, or say why not
   desk check PLAN [JOBS]          yes, or the fault, with the jobs' names
   desk show PLAN [JOBS] [--svg]   draw both tables, here or as an SVG picture
+  desk why PLAN [JOBS] [--svg]    a night on which a plan with a fault goes wrong
   desk run PLAN TICKS [JOBS]      the dispatcher over a text of ticks, a line a step
   desk run PLAN --demo N [JOBS]   the same over N ticks made here
   desk list PLAN                  the plan's job list, as text

@@ -9,16 +9,16 @@ fn is(word: &[u8], name: &[u8]) -> bool {
 }
 
 // Which words of the command name files.
-fn show(b: &[u8], c: &[u8], d: &[u8]) {
+fn show(b: &[u8], c: &[u8], d: &[u8], is_why: bool) {
     if is(b, b"--svg") {
-        commands::show(c, d, true);
+        commands::show(c, d, true, is_why);
         return;
     }
     if is(c, b"--svg") {
-        commands::show(b, d, true);
+        commands::show(b, d, true, is_why);
         return;
     }
-    commands::show(b, c, is(d, b"--svg"));
+    commands::show(b, c, is(d, b"--svg"), is_why);
 }
 
 fn run(b: &[u8], c: &[u8], d: &[u8], e: &[u8]) {
@@ -49,7 +49,11 @@ fn on_plan(a: &[u8], b: &[u8], c: &[u8], d: &[u8], e: &[u8]) {
         return;
     }
     if is(a, b"show") {
-        show(b, c, d);
+        show(b, c, d, false);
+        return;
+    }
+    if is(a, b"why") {
+        show(b, c, d, true);
         return;
     }
     if is(a, b"list") {

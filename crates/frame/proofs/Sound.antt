@@ -1,4 +1,4 @@
--- A fault that the search finds is one of a real execution.
+-- A fault that the search finds is one of a real execution, whose needs are those that the search went on with behind its switches.
 -- Assumes nothing.
 use mathlib.Core.Bool.{Bool, _&&_, false, true}
 use mathlib.Core.List.{List, [], _∷_}
@@ -21,6 +21,18 @@ use Rattle.frame.specs.Demand.{Real}
 use Rattle.frame.specs.Execution.{Bad, State, Valid, nextMode, opening, outran, runs, state, step, switchTo}
 use Rattle.frame.specs.Jobs.{Frame, WellFormed}
 use Rattle.frame.specs.Search.{Fault, Finding, faultAt, firstFault, found, needsAfter, reachesBudget, scan, searchFrom, switchAt, switches, trySwitch}
+
+module _ (F : Frame) where
+  -- the needs with which the search goes on behind a chain of switches
+  pub data Behind : List ℕ → (ℕ → ℕ) → Type 0 where
+    at-first : Behind [] (λ (j : ℕ). F .budget j 0)
+    switched-at : {h : List ℕ} {c : ℕ → ℕ} (t m q m′ : ℕ) (u : List ℕ) → Behind h c → opening F c t ≡ state m q h u → m < m′ → m′ < F .K
+        → Behind (t ∷ h) (needsAfter F c (oneMore true (F .table m t) u) (F .table m t) m′)
+
+  -- a real execution with such needs
+  pub record Shown (f : Fault) : Type 0 where
+    pub real : Real F f
+    pub needs : Behind (f .chain) (real .demand)
 
 module _ (F : Frame) (W : WellFormed F) where
   abbrev Crit : (c : ℕ → ℕ) → ℕ → List ℕ → Type 0
@@ -89,29 +101,42 @@ module _ (F : Frame) (W : WellFormed F) where
             let y′ = leb-false m′ (F .level i) (lie (leb m′ (F .level i)) y) in
             (omega (arith, n, W .budget-one i a, W .budget-up i 0 m′ a (omega arith) (nx .2)), omega (arith, n, W .budget-top i m′ a (omega arith) (nx .2)))
 
-  fault-real : (c : ℕ → ℕ) (t : ℕ) (s : State) (f : Fault) → Valid F c → t ≤ F .L → opening F c t ≡ s → faultAt F c t s ≡ found f → Real F f
-  fault-real c t s f ok l y x =
-      let z = faultAt-found F c t s f x in
-      subst (Real F) (z .1) (record {
-        demand = c;
-        valid = ok;
-        in-frame = l;
-        bad = subst (λ (s : State). Bad F c t s (z .0)) (sym y) (z .2);
-        switched = ap (λ (s : State). s .chain) y;
+  fault-real : (c : ℕ → ℕ) (t m q : ℕ) (h : List ℕ) (u : List ℕ) (f : Fault) → Valid F c → t ≤ F .L → opening F c t ≡ state m q h u → Behind F h c
+      → faultAt F c t (state m q h u) ≡ found f → Shown F f
+  fault-real c t m q h u f ok l y b x =
+      let z = faultAt-found F c t (state m q h u) f x in
+      subst (Shown F) (z .1) (record {
+        real = record {
+          demand = c;
+          valid = ok;
+          in-frame = l;
+          bad = subst (λ (s : State). Bad F c t s (z .0)) (sym y) (z .2);
+          switched = ap (λ (s : State). s .chain) y;
+        };
+        needs = b;
       })
 
-  scan-real : (c : ℕ → ℕ) (k t : ℕ) (s : State) (f : Fault) → Valid F c → t + k ≡ F .L → opening F c t ≡ s → scan F c k t s ≡ found f → Real F f
-  unfolding scan opening
-  scan-real c zero t s f ok l y x = fault-real c t s f ok (omega arith) y x
-  scan-real c (suc k) t s f ok l y x = go (or-found (faultAt F c t s) _ f x) (λ z. scan-real c k (suc t) (step F c t s) f ok (omega arith) (ap (step F c t) y) z)
-    where
-      go : (faultAt F c t s ≡ found f) ⊎ (scan F c k (suc t) (step F c t s) ≡ found f) → (scan F c k (suc t) (step F c t s) ≡ found f → Real F f) → Real F f
-      go (inl z) rec = fault-real c t s f ok (omega arith) y z
-      go (inr z) rec = rec z
-
   abbrev Honest : (ℕ → (ℕ → ℕ) → ℕ → State → Finding) → Type 0
-  Honest rest = (k : ℕ) (c : ℕ → ℕ) (t m q : ℕ) (h : List ℕ) (u : List ℕ) (f : Fault) → Valid F c → t + k ≡ F .L → opening F c t ≡ state m q h u → Crit c m u → m < F .K
-      → rest k c t (state m q h u) ≡ found f → Real F f
+  Honest rest = (k : ℕ) (c : ℕ → ℕ) (t m q : ℕ) (h : List ℕ) (u : List ℕ) (f : Fault) → Valid F c → t + k ≡ F .L → opening F c t ≡ state m q h u → Crit c m u → m < F .K → Behind F h c
+      → rest k c t (state m q h u) ≡ found f → Shown F f
+
+  scan-real : Honest (λ k c t s. scan F c k t s)
+  unfolding scan opening
+  scan-real zero c t m q h u f ok l y cr mk b x = fault-real c t m q h u f ok (omega arith) y b x
+  scan-real (suc k) c t m q h u f ok l y cr mk b x =
+      go (or-found (faultAt F c t (state m q h u)) _ f x)
+      (λ z. scan-real k c (suc t) m m h (oneMore (runs F c t m u j) j u) f ok (omega arith) (ap (step F c t) y ∙ cs) (crit-bump c m u (runs F c t m u j) j cr) mk b z)
+    where
+      j : ℕ
+      j = F .table m t
+
+      cs : step F c t (state m q h u) ≡ state m m h (oneMore (runs F c t m u j) j u)
+      cs = crit-step F W c t m q h u j refl cr
+
+      go : (faultAt F c t (state m q h u) ≡ found f) ⊎ (scan F c k (suc t) (step F c t (state m q h u)) ≡ found f)
+          → (scan F c k (suc t) (state m m h (oneMore (runs F c t m u j) j u)) ≡ found f → Shown F f) → Shown F f
+      go (inl z) rec = fault-real c t m q h u f ok (omega arith) y b z
+      go (inr z) rec = rec (subst (λ (s : State). scan F c k (suc t) s ≡ found f) cs z)
 
   switch-found : (rest : ℕ → (ℕ → ℕ) → ℕ → State → Finding) (k : ℕ) (c : ℕ → ℕ) (t : ℕ) (s : State) (j : ℕ) (f : Fault) → switchAt F rest k c t s j ≡ found f
       → (m′ : ℕ) × T (runs F c t (s .mode) (s .had) j) × (suc (unitsOf (s .had) j) ≡ F .budget j (s .mode)) × (nextMode F j (s .mode) ≡ some m′)
@@ -130,10 +155,10 @@ module _ (F : Frame) (W : WellFormed F) where
 
   switches-real : (rest : ℕ → (ℕ → ℕ) → ℕ → State → Finding) → Honest rest → Honest (switches F rest)
   unfolding switches opening
-  switches-real rest ih zero c t m q h u f ok l y cr mk x = let z : _≡_ {A = ℕ} 0 1 = cc in absurd (omega arith)
-  switches-real rest ih (suc k) c t m q h u f ok l y cr mk x =
+  switches-real rest ih zero c t m q h u f ok l y cr mk b x = let z : _≡_ {A = ℕ} 0 1 = cc in absurd (omega arith)
+  switches-real rest ih (suc k) c t m q h u f ok l y cr mk b x =
       go (or-found (switchAt F rest k c t (state m q h u) (F .table m t)) _ f x)
-      (λ z. switches-real rest ih k c (suc t) m m h (oneMore (runs F c t m u j) j u) f ok (omega arith) (ap (step F c t) y ∙ cs) (crit-bump c m u (runs F c t m u j) j cr) mk z)
+      (λ z. switches-real rest ih k c (suc t) m m h (oneMore (runs F c t m u j) j u) f ok (omega arith) (ap (step F c t) y ∙ cs) (crit-bump c m u (runs F c t m u j) j cr) mk b z)
     where
       j : ℕ
       j = F .table m t
@@ -142,24 +167,29 @@ module _ (F : Frame) (W : WellFormed F) where
       cs = crit-step F W c t m q h u j refl cr
 
       go : (switchAt F rest k c t (state m q h u) j ≡ found f) ⊎ (switches F rest k c (suc t) (step F c t (state m q h u)) ≡ found f)
-          → (switches F rest k c (suc t) (state m m h (oneMore (runs F c t m u j) j u)) ≡ found f → Real F f) → Real F f
+          → (switches F rest k c (suc t) (state m m h (oneMore (runs F c t m u j) j u)) ≡ found f → Shown F f) → Shown F f
       go (inl z) rec =
           let a = switch-found rest k c t (state m q h u) j f z in
+          let nx = next-mode F W j m (a .0) (runs-job F W c t m u j (a .1)) mk (a .3) in
           ih k (needsAfter F c (oneMore true j u) j (a .0)) (suc t) (a .0) m (t ∷ h) (oneMore true j u) f
           (switch-valid c t m q h u j (a .0) refl (a .1) (a .2) (a .3) cr mk ok) (omega arith)
           (switch-run c t m q h u j (a .0) refl (a .1) (a .2) (a .3) cr mk y)
-          (switch-crit c t m q h u j (a .0) refl (a .1) (a .2) (a .3) cr mk) (next-mode F W j m (a .0) (runs-job F W c t m u j (a .1)) mk (a .3) .2) (a .4)
+          (switch-crit c t m q h u j (a .0) refl (a .1) (a .2) (a .3) cr mk) (nx .2)
+          (switched-at t m q (a .0) u b y (nx .1) (nx .2)) (a .4)
       go (inr z) rec = rec (subst (λ (s : State). switches F rest k c (suc t) s ≡ found f) cs z)
 
   search-real : (n : ℕ) → Honest (searchFrom F n)
   unfolding searchFrom
-  search-real zero k c t m q h u f ok l y cr mk x = let z : _≡_ {A = ℕ} 0 1 = cc in absurd (omega arith)
-  search-real (suc n) k c t m q h u f ok l y cr mk x =
-      ⊎-elim (λ z. scan-real c k t (state m q h u) f ok l y z) (λ z. switches-real (searchFrom F n) (search-real n) k c t m q h u f ok l y cr mk z)
+  search-real zero k c t m q h u f ok l y cr mk b x = let z : _≡_ {A = ℕ} 0 1 = cc in absurd (omega arith)
+  search-real (suc n) k c t m q h u f ok l y cr mk b x =
+      ⊎-elim (λ z. scan-real k c t m q h u f ok l y cr mk b z) (λ z. switches-real (searchFrom F n) (search-real n) k c t m q h u f ok l y cr mk b z)
       (or-found (scan F c k t (state m q h u)) _ f x)
 
-  pub sound : (f : Fault) → firstFault F ≡ found f → Real F f
+  pub shown : (f : Fault) → firstFault F ≡ found f → Shown F f
   unfolding firstFault opening
-  sound f x =
+  shown f x =
       search-real (F .K) (F .L) (λ j. F .budget j 0) 0 0 0 [] (replicate (F .n) 0) f
-      (λ i a. (W .budget-one i a, W .budget-up i 0 (F .level i) a (omega arith) (W .level-below i a))) (omega arith) refl (λ i a b. refl) (W .modes) x
+      (λ i a. (W .budget-one i a, W .budget-up i 0 (F .level i) a (omega arith) (W .level-below i a))) (omega arith) refl (λ i a b. refl) (W .modes) at-first x
+
+  pub sound : (f : Fault) → firstFault F ≡ found f → Real F f
+  sound f x = shown f x .real

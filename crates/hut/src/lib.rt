@@ -12,6 +12,7 @@ ghost use Rattle.machine.specs.Machine.{stepOn};
 ghost use Rattle.dispatch.specs.State.{stepOf};
 ghost use Rattle.dispatch.specs.Open.{openOf};
 ghost use Rattle.hut.specs.Calls.{checkAnswer, readResult, writeAnswer, buildAnswer, stepAnswer, moved, answered, opened};
+ghost use Rattle.hut.specs.Why.{whyAnswer, whyNeeds};
 use dispatch::state::State;
 use joblist::MOST_JOBS;
 use machine::head::Head;
@@ -175,4 +176,17 @@ pub extern "C" fn hut_step(s: &mut State, tick: u16, ended: u8) -> Answer
     );
     s.head = o.head;
     o.answer
+}
+
+// The check, and behind a fault what each job needs in an execution that goes wrong as it says: every entry of `needs`.
+#[no_mangle]
+pub extern "C" fn hut_why(list: &[u8], lo: &[u8], hi: &[u8], needs: &mut [u16; MOST_JOBS]) -> Answer
+    ensures { λ r. ⌜ (r ≡ whyAnswer firstEdition (now (list .entry)) (now (lo .entry)) (now (hi .entry)))
+        × (now (needs .exit) ≡ whyNeeds firstEdition (now (list .entry)) (now (lo .entry)) (now (hi .entry))) ⌝ }
+{
+    let w = witness::witness(list, lo, hi);
+    let v = w.verdict;
+    let each = w.needs;
+    *needs = each;
+    answers::check_answer(v)
 }

@@ -69,10 +69,10 @@ pub fn is_high(list: &[u8], j: usize) -> bool {
     byte_at(list, field_at(j, 8)) == 1
 }
 
-pub(crate) fn edge_from(list: &[u8], e: usize) -> usize {
+pub fn edge_from(list: &[u8], e: usize) -> usize {
     wide(byte_at(list, edge_at(jobs(list), e)))
 }
 
-pub(crate) fn edge_to(list: &[u8], e: usize) -> usize {
+pub fn edge_to(list: &[u8], e: usize) -> usize {
     wide(byte_at(list, after(edge_at(jobs(list), e))))
 }

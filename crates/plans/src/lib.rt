@@ -103,7 +103,23 @@ pub fn put_check(page: Page, path: &[u8], plan: &[u8], names: Names) -> Page {
     if is_accepted(plan) {
         return put_yes(page, path, plan);
     }
-    put_fault(page, plan, names)
+    let told = put_fault(page, plan, names);
+    if is_whole(plan) {
+        return put_why(told, path);
+    }
+    told
+}
+
+// Where to see the fault happen.
+fn put_why(page: Page, path: &[u8]) -> Page {
+    let to = page.blank(4).left(b"why", 12).put(b"desk why ");
+    to.put(path).line(b" shows a night on which it happens")
+}
+
+// There is no such night.
+pub fn put_good(page: Page, path: &[u8]) -> Page {
+    let to = page.put(b"yes: ").put(path);
+    to.line(b": every night is good, so there is none to show")
 }
 
 // Both tables, with the fault where there is one.

@@ -55,7 +55,7 @@ module _ (lim : Limits) (s lo hi : List ℕ) (input : Input lim s lo hi) where
   F = frameOf s lo hi
 
   -- well-formed input gets past every row to the search
-  check-is : checkOf lim s lo hi ≡ searchAnswer (firstFault (frameOf s lo hi))
+  pub check-is : checkOf lim s lo hi ≡ searchAnswer (firstFault (frameOf s lo hi))
   unfolding checkOf tablesAnswer
   check-is =
       ap (λ (a : ListAnswer). ofList a ⨾ tablesAnswer s lo hi) (input .list)

@@ -2,8 +2,8 @@
 -- Assumes nothing.
 use native.Mathlib.Omega.{arith}
 use Prim.Native.Nat.{_-_}
-use Rattle.picture.proofs.numbers.Statement.{statement}
-use Rattle.picture.proofs.numbers.Tie as tie
+use Rattle.picture.proofs.sheet.numbers.Statement.{statement}
+use Rattle.picture.proofs.sheet.numbers.Tie as tie
 
 abbrev Inv-loop : tie.InvT-loop
 Inv-loop plan sheet is-high to₀ t₀ t-end to t = Unit {0}

@@ -2,8 +2,8 @@
 -- Assumes nothing.
 use native.Mathlib.Omega.{arith}
 use Prim.Native.Nat.{_-_}
-use Rattle.picture.proofs.margin.Statement.{statement}
-use Rattle.picture.proofs.margin.Tie as tie
+use Rattle.picture.proofs.sheet.margin.Statement.{statement}
+use Rattle.picture.proofs.sheet.margin.Tie as tie
 
 abbrev Inv-loop : tie.InvT-loop
 Inv-loop names n most₀ j₀ most j = Unit {0}

@@ -2,8 +2,8 @@
 -- Assumes nothing.
 use native.Mathlib.Omega.{arith}
 use Prim.Native.Nat.{_-_}
-use Rattle.picture.proofs.letters.Statement.{statement}
-use Rattle.picture.proofs.letters.Tie as tie
+use Rattle.picture.proofs.shapes.letters.Statement.{statement}
+use Rattle.picture.proofs.shapes.letters.Tie as tie
 
 abbrev Inv-loop : tie.InvT-loop
 Inv-loop names j to₀ i₀ i-end to i = Unit {0}

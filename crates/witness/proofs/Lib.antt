@@ -1,0 +1,5 @@
+pub mod Filled
+pub mod Again
+pub mod TwoNeeds
+pub mod Night
+pub mod Cases
