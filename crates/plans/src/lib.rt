@@ -11,6 +11,7 @@ use joblist::MOST_SLOTS;
 use jobtext::Names;
 use merge::Built;
 use page::Page;
+use page::less;
 use planfile::ReadAnswer;
 use planfile::TRAILER_BYTES;
 use planfile::WriteWhy;
@@ -61,7 +62,8 @@ pub fn high_of(plan: &[u8]) -> &[u8] {
 
 // The bytes of a plan with these parts, whatever the check says of them; none where there is no room.
 pub fn join(list: &[u8], lo: &[u8], hi: &[u8], out: &mut [u8]) -> usize {
-    if out.len() < list.len() + lo.len() + hi.len() + TRAILER_BYTES {
+    let room = less(less(less(out.len(), list.len()), lo.len()), hi.len());
+    if room < TRAILER_BYTES {
         return 0;
     }
     planfile::put_plan(list, lo, hi, out)
