@@ -1,12 +1,12 @@
 // The commands, each with the files that it reads and writes.
-use crate::door::drawn;
-use crate::door::given;
-use crate::door::names_of;
-use crate::door::read_jobs;
 use files::complain;
 use files::send;
 use jobtext::Names;
 use page::Page;
+use pairs::drawn;
+use pairs::given;
+use pairs::names_of;
+use pairs::read_jobs;
 use plans::Plan;
 use plans::high_of;
 use plans::list_of;

@@ -1,6 +1,5 @@
 // desk: the command for the people at the desk. What it does is done by the proved calls; this reads, writes and prints.
 mod commands;
-mod door;
 mod help;
 mod story;
 

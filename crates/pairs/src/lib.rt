@@ -15,19 +15,19 @@ use text::same;
 
 // The bytes of a plan, which the check may have something against, and how many; the names of its jobs; whether all was
 // read, or why not was said; whether the names are of another list; and whether the tables were drawn by hand.
-pub(crate) struct Given {
-    pub(crate) bytes: [u8; MOST],
-    pub(crate) size: usize,
-    pub(crate) names: Names,
-    pub(crate) is_read: bool,
-    pub(crate) is_other: bool,
-    pub(crate) is_drawn: bool,
+pub struct Pair {
+    pub bytes: [u8; MOST],
+    pub size: usize,
+    pub names: Names,
+    pub is_read: bool,
+    pub is_other: bool,
+    pub is_drawn: bool,
 }
 
-impl Given {
+impl Pair {
     // Nothing, after it was said why.
     fn none() -> Self {
-        Given {
+        Pair {
             bytes: [0u8; MOST],
             size: 0,
             names: Names::none(),
@@ -39,9 +39,9 @@ impl Given {
 }
 
 // What came of a text of jobs; and whether it was read, or why not was said.
-pub(crate) struct Listed {
-    pub(crate) jobs: Jobs,
-    pub(crate) is_read: bool,
+pub struct Listed {
+    pub jobs: Jobs,
+    pub is_read: bool,
 }
 
 // Reads a text of jobs that stands in a file.
@@ -57,7 +57,7 @@ fn jobs_in(path: &[u8], text: &[u8]) -> Listed {
 }
 
 // Reads a file of jobs.
-pub(crate) fn read_jobs(path: &[u8]) -> Listed {
+pub fn read_jobs(path: &[u8]) -> Listed {
     let file = files::read(path);
     if !file.is_read {
         return Listed {
@@ -70,14 +70,14 @@ pub(crate) fn read_jobs(path: &[u8]) -> Listed {
 }
 
 // The names of a plan's jobs; whether they were found, or why not was said; and whether they are of another list.
-pub(crate) struct Named {
-    pub(crate) names: Names,
-    pub(crate) is_read: bool,
-    pub(crate) is_other: bool,
+pub struct Named {
+    pub names: Names,
+    pub is_read: bool,
+    pub is_other: bool,
 }
 
 // By their numbers, where no text is given.
-pub(crate) fn names_of(from: &[u8], plan: &[u8]) -> Named {
+pub fn names_of(from: &[u8], plan: &[u8]) -> Named {
     if from.len() == 0 {
         return Named {
             names: Names::none(),
@@ -97,10 +97,10 @@ pub(crate) fn names_of(from: &[u8], plan: &[u8]) -> Named {
 }
 
 // The parts of a pair as a plan has them.
-fn joined(list: &[u8], lo: &[u8], hi: &[u8], names: Names) -> Given {
+fn joined(list: &[u8], lo: &[u8], hi: &[u8], names: Names) -> Pair {
     let mut bytes = [0u8; MOST];
     let size = plans::join(list, lo, hi, &mut bytes);
-    Given {
+    Pair {
         bytes: bytes,
         size: size,
         names: names,
@@ -111,11 +111,11 @@ fn joined(list: &[u8], lo: &[u8], hi: &[u8], names: Names) -> Given {
 }
 
 // The tables of a list, in the text of a file.
-fn tables_in(path: &[u8], text: &[u8], list: &[u8], names: Names) -> Given {
+fn tables_in(path: &[u8], text: &[u8], list: &[u8], names: Names) -> Pair {
     let tables = tabletext::read(text, list, names);
     if tables.line != 0 {
         complain(tabletext::put_mistake(Page::errors(), path, tables, list));
-        return Given::none();
+        return Pair::none();
     }
     let low = tables.low;
     let high = tables.high;
@@ -124,25 +124,25 @@ fn tables_in(path: &[u8], text: &[u8], list: &[u8], names: Names) -> Given {
 }
 
 // A list and the file of its tables. Where the list is refused the page says so, and the tables are not looked at.
-fn drawn_for(list: &[u8], names: Names, from: &[u8], page: Page) -> Given {
+fn drawn_for(list: &[u8], names: Names, from: &[u8], page: Page) -> Pair {
     if !plans::is_list(list) {
         send(plans::put_list_fault(page, list, names));
-        return Given::none();
+        return Pair::none();
     }
     let file = files::read(from);
     if !file.is_read {
-        return Given::none();
+        return Pair::none();
     }
     let bytes = file.bytes;
     tables_in(from, part(&bytes, 0, file.size), list, names)
 }
 
 // A file of jobs, which was read, and the file of its tables.
-fn drawn_in(path: &[u8], file: File, from: &[u8], page: Page) -> Given {
+fn drawn_in(path: &[u8], file: File, from: &[u8], page: Page) -> Pair {
     let bytes = file.bytes;
     let listed = jobs_in(path, part(&bytes, 0, file.size));
     if !listed.is_read {
-        return Given::none();
+        return Pair::none();
     }
     let jobs = listed.jobs;
     let list = jobs.list;
@@ -151,11 +151,11 @@ fn drawn_in(path: &[u8], file: File, from: &[u8], page: Page) -> Given {
 }
 
 // A plan file, which was read, and the names of its jobs.
-fn planned(file: File, from: &[u8]) -> Given {
+fn planned(file: File, from: &[u8]) -> Pair {
     let bytes = file.bytes;
     let named = names_of(from, part(&bytes, 0, file.size));
     let names = named.names;
-    Given {
+    Pair {
         bytes: bytes,
         size: file.size,
         names: names,
@@ -174,19 +174,19 @@ fn is_text(s: &[u8]) -> bool {
 }
 
 // A file of jobs and the file of its tables.
-pub(crate) fn drawn(path: &[u8], from: &[u8], page: Page) -> Given {
+pub fn drawn(path: &[u8], from: &[u8], page: Page) -> Pair {
     let file = files::read(path);
     if !file.is_read {
-        return Given::none();
+        return Pair::none();
     }
     drawn_in(path, file, from, page)
 }
 
 // PLAN [JOBS], or JOBS TABLES: what the first file is decides. The page is for what is against a list.
-pub(crate) fn given(path: &[u8], from: &[u8], page: Page) -> Given {
+pub fn given(path: &[u8], from: &[u8], page: Page) -> Pair {
     let file = files::read(path);
     if !file.is_read {
-        return Given::none();
+        return Pair::none();
     }
     let bytes = file.bytes;
     if from.len() != 0 {
