@@ -2,12 +2,16 @@
 use jobtext::line::word;
 use text::same;
 
-// The words that C has taken, and those that the source itself uses.
-const TAKEN: [u8; 333] =
-    *b"auto break case char const continue default do double else enum extern float for goto if inline int long register restrict return short signed sizeof static struct switch typedef union unsigned void volatile while _Alignas _Alignof _Atomic _Bool _Complex _Generic _Imaginary _Noreturn _Static_assert _Thread_local main size_t uint8_t";
+// The words that C has taken, to C23, and those that the source itself uses.
+const TAKEN: [u8; 431] =
+    *b"auto break case char const continue default do double else enum extern float for goto if inline int \
+    long register restrict return short signed sizeof static struct switch typedef union unsigned void \
+    volatile while _Alignas _Alignof _Atomic _Bool _Complex _Generic _Imaginary _Noreturn _Static_assert \
+    _Thread_local alignas alignof bool constexpr false nullptr static_assert thread_local true typeof \
+    typeof_unqual main size_t uint8_t";
 
 // How many they are.
-const WORDS: usize = 47;
+const WORDS: usize = 58;
 
 fn is_taken(s: &[u8], taken: &[u8]) -> bool {
     for k in 0..WORDS {

@@ -114,7 +114,7 @@ fn joined(list: &[u8], lo: &[u8], hi: &[u8], names: Names) -> Pair {
 fn tables_in(path: &[u8], text: &[u8], list: &[u8], names: Names) -> Pair {
     let tables = tabletext::read(text, list, names);
     if tables.line != 0 {
-        complain(tabletext::put_mistake(Page::errors(), path, tables, list));
+        complain(tabletext::put_mistake(Page::errors(), path, tables));
         return Pair::none();
     }
     let low = tables.low;

@@ -1,59 +1,73 @@
 // A mistake in a text of tables: the file, the line, and what was expected.
 use crate::reader::Tables;
 use crate::reader::Wrong;
-use jobtext::list;
+use jobtext::line::NONE;
 use page::Page;
-use page::less;
+use page::after;
+use text::find;
+use text::part;
 
-// The numbers from 0 to before n.
-fn put_range(page: Page, n: usize) -> Page {
-    page.put(b"0 to ").number(less(n, 1))
-}
+// What is expected, a line for each mistake in the order of `row`. Some are followed by a number.
+const EXPECTED: [u8; 474] = *b"LO, HI, or slots and a job, as in 4-6 gate, and nothing else
+each table once: an earlier line begins this one
+LO or HI before the first slots
+the lower slot first, as in 4-6
+slots of the frame, 0 to
+each slot once: an earlier line of this table has slot
+the name of a job, or idle, after the slots
+the number of a job after `job`, 0 to
+LO and its slots, and the text has ended
+HI and its slots, and the text has ended
+every slot of the frame in this table: no line has slot
+";
 
-// What was expected of a run of slots.
-fn put_of_run(page: Page, w: Wrong, list: &[u8], slot: usize) -> Page {
+fn row(w: Wrong) -> usize {
     match w {
-        Wrong::Backwards => page.put(b"expected the lower slot first, as in 4-6"),
-        Wrong::Past => put_range(
-            page.put(b"expected slots of the frame, "),
-            list::slots(list),
-        ),
-        Wrong::Twice => page.put(
-                b"expected each slot once: an earlier line of this table has slot ",
-            )
-            .number(slot),
-        Wrong::Name => page.put(b"expected the name of a job, or idle, after the slots"),
-        Wrong::Number => {
-            put_range(
-                page.put(b"expected the number of a job after `job`, "),
-                list::jobs(list),
-            )
-        }
-        _ => page.put(b"expected LO, HI, or slots and a job, as in 4-6 gate, and nothing else"),
+        Wrong::Again => 1,
+        Wrong::Loose => 2,
+        Wrong::Backwards => 3,
+        Wrong::Past(_) => 4,
+        Wrong::Twice(_) => 5,
+        Wrong::Name => 6,
+        Wrong::Number(_) => 7,
+        Wrong::NoLow => 8,
+        Wrong::NoHigh => 9,
+        Wrong::LeftOut(_) => 10,
+        _ => 0,
     }
 }
 
-// What was expected.
-fn put_expected(page: Page, w: Wrong, list: &[u8], slot: usize) -> Page {
+fn number(w: Wrong) -> usize {
     match w {
-        Wrong::Again => page.put(b"expected each table once: an earlier line begins this one"),
-        Wrong::Loose => page.put(b"expected LO or HI before the first slots"),
-        Wrong::NoLow => page.put(b"expected LO and its slots, and the text has ended"),
-        Wrong::NoHigh => page.put(b"expected HI and its slots, and the text has ended"),
-        Wrong::LeftOut => page.put(
-                b"expected every slot of the frame in this table: no line has slot ",
-            )
-            .number(slot),
-        _ => put_of_run(page, w, list, slot),
+        Wrong::Past(n) => n,
+        Wrong::Twice(n) => n,
+        Wrong::Number(n) => n,
+        Wrong::LeftOut(n) => n,
+        _ => NONE,
     }
+}
+
+// Line k of a text.
+fn put_row(page: Page, text: &[u8], k: usize) -> Page {
+    let mut at = 0;
+    for i in 0..k {
+        at = after(find(text, at, b'\n'));
+    }
+    page.put(part(text, at, find(text, at, b'\n')))
+}
+
+// A number after a text, where there is one.
+fn put_number(page: Page, n: usize) -> Page {
+    if NONE <= n {
+        return page;
+    }
+    page.blank(1).number(n)
 }
 
 // Says where a text is mistaken, and what was expected there.
-pub fn put_mistake(page: Page, path: &[u8], tables: Tables, list: &[u8]) -> Page {
+pub fn put_mistake(page: Page, path: &[u8], tables: Tables) -> Page {
     let wrong = tables.wrong;
-    let at = page.put(path)
-        .put(b": line ")
-        .number(tables.line)
-        .put(b": ");
-    put_expected(at, wrong, list, tables.slot).end()
+    let at = page.put(path).put(b": line ").number(tables.line);
+    let expected = put_row(at.put(b": expected "), &EXPECTED, row(wrong));
+    put_number(expected, number(wrong)).end()
 }

@@ -10,6 +10,7 @@ use jobtext::line::number;
 use jobtext::line::word;
 use jobtext::list;
 use page::after;
+use page::less;
 use text::byte_at;
 use text::find;
 use text::part;
@@ -18,24 +19,24 @@ use text::same;
 // An entry that no line has given yet: neither idle nor a job.
 const OPEN: u8 = 254;
 
-// What is wrong with a text.
+// What is wrong with a text, some with a number: the last slot or job that there is, or the slot that is meant.
 pub enum Wrong {
     Nothing,
     Neither,
     Again,
     Loose,
     Backwards,
-    Past,
-    Twice,
+    Past(usize),
+    Twice(usize),
     Name,
-    Number,
+    Number(usize),
     NoLow,
     NoHigh,
-    LeftOut,
+    LeftOut(usize),
 }
 
 // What was read: both tables; the lines of their headings, 0 where there is none yet; which table the lines are of, and how
-// far they are; and the first mistake with its slot and its line, which is 0 where there is none.
+// far they are; and the first mistake with its line, which is 0 where there is none.
 pub struct Tables {
     pub low: [u8; MOST_SLOTS],
     pub high: [u8; MOST_SLOTS],
@@ -44,7 +45,6 @@ pub struct Tables {
     is_high: bool,
     here: usize,
     pub(crate) wrong: Wrong,
-    pub(crate) slot: usize,
     pub line: usize,
 }
 
@@ -57,7 +57,7 @@ struct Run {
 
 impl Tables {
     // Nothing yet, and no mistake.
-    pub fn none() -> Self {
+    fn none() -> Self {
         Tables {
             low: [OPEN; MOST_SLOTS],
             high: [OPEN; MOST_SLOTS],
@@ -66,13 +66,12 @@ impl Tables {
             is_high: false,
             here: 0,
             wrong: Wrong::Nothing,
-            slot: 0,
             line: 0,
         }
     }
 
     // A mistake in a line.
-    fn mistaken(self, wrong: Wrong, slot: usize, line: usize) -> Self {
+    fn mistaken(self, wrong: Wrong, line: usize) -> Self {
         let low = self.low;
         let high = self.high;
         Tables {
@@ -83,7 +82,6 @@ impl Tables {
             is_high: self.is_high,
             here: self.here,
             wrong: wrong,
-            slot: slot,
             line: line,
         }
     }
@@ -218,46 +216,46 @@ fn slots_wrong(run: Run, slots: usize, taken: usize) -> Wrong {
         return Wrong::Backwards;
     }
     if slots <= run.to {
-        return Wrong::Past;
+        return Wrong::Past(less(slots, 1));
     }
     if taken <= run.to {
-        return Wrong::Twice;
+        return Wrong::Twice(taken);
     }
     Wrong::Nothing
 }
 
-// What is wrong with the entry of a run.
-fn entry_wrong(run: Run, line: &[u8]) -> Wrong {
+// What is wrong with the entry of a run, where there are n jobs.
+fn entry_wrong(run: Run, n: usize, line: &[u8]) -> Wrong {
     if run.entry < NONE {
         return Wrong::Nothing;
     }
     if word(line, 2).len() != 0 {
-        return Wrong::Number;
+        return Wrong::Number(less(n, 1));
     }
     Wrong::Name
 }
 
-fn run_wrong(tables: Tables, run: Run, slots: usize, taken: usize, line: &[u8]) -> Wrong {
+fn run_wrong(tables: Tables, run: Run, list: &[u8], taken: usize, line: &[u8]) -> Wrong {
     if !is_run(line) {
         return Wrong::Neither;
     }
-    let wrong = slots_wrong(run, slots, taken);
+    let wrong = slots_wrong(run, list::slots(list), taken);
     let Wrong::Nothing = wrong else {
         return wrong;
     };
     if tables.heading(tables.is_high) == 0 {
         return Wrong::Loose;
     }
-    entry_wrong(run, line)
+    entry_wrong(run, list::jobs(list), line)
 }
 
 // A line with a run.
 fn run_line(tables: Tables, list: &[u8], names: Names, line: &[u8]) -> Tables {
     let run = run_of(list, names, line);
     let taken = tables.first(tables.is_high, run.from, after(run.to), false);
-    let wrong = run_wrong(tables, run, list::slots(list), taken, line);
+    let wrong = run_wrong(tables, run, list, taken, line);
     let Wrong::Nothing = wrong else {
-        return tables.mistaken(wrong, taken, tables.here);
+        return tables.mistaken(wrong, tables.here);
     };
     tables.with_run(run)
 }
@@ -265,7 +263,7 @@ fn run_line(tables: Tables, list: &[u8], names: Names, line: &[u8]) -> Tables {
 // The heading of a table, where no line has it yet.
 fn heading(tables: Tables, is_high: bool) -> Tables {
     if tables.heading(is_high) != 0 {
-        return tables.mistaken(Wrong::Again, 0, tables.here);
+        return tables.mistaken(Wrong::Again, tables.here);
     }
     tables.headed(is_high)
 }
@@ -278,7 +276,7 @@ fn heading_line(tables: Tables, name: &[u8]) -> Tables {
     if same(name, b"HI") {
         return heading(tables, true);
     }
-    tables.mistaken(Wrong::Neither, 0, tables.here)
+    tables.mistaken(Wrong::Neither, tables.here)
 }
 
 fn one_line(tables: Tables, list: &[u8], names: Names, line: &[u8]) -> Tables {
@@ -323,11 +321,11 @@ fn closed(tables: Tables, slots: usize, is_high: bool) -> Tables {
     }
     let line = tables.heading(is_high);
     if line == 0 {
-        return tables.mistaken(missing(is_high), 0, after(tables.here));
+        return tables.mistaken(missing(is_high), after(tables.here));
     }
     let t = tables.first(is_high, 0, slots, true);
     if t < slots {
-        return tables.mistaken(Wrong::LeftOut, t, line);
+        return tables.mistaken(Wrong::LeftOut(t), line);
     }
     tables
 }

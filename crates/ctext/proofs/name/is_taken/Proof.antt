@@ -9,7 +9,7 @@ abbrev Inv-loop : tie.InvT-loop
 Inv-loop s taken k₀ k = Unit {0}
 
 abbrev μ-loop : tie.MeasureT-loop
-μ-loop s taken k₀ k = 47 - k
+μ-loop s taken k₀ k = 58 - k
 
 loop-holds : tie.Need-loop-holds Inv-loop μ-loop
 loop-holds c = tt
