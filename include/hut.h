@@ -1,7 +1,8 @@
 /* The slot desk for firmware: build, check, read, write, open and step, over bytes that the caller lends
  * and one state that the caller keeps.
  *
- * Link libhut.a, which `rt staticlib hut` writes (x86-64). Every promise below is the contract of a proved
+ * Link libhut.a: `rt staticlib hut` writes it for x86-64, `tools/hut-for` for 64-bit Arm and RISC-V as well.
+ * Every promise below is the contract of a proved
  * function: crates/hut/src/lib.rt has it, and crates/hut/specs/Calls.antt says what each answer is. What is
  * not proved is the compiler's back end, and that the caller keeps to "What the caller owes".
  *

@@ -8,7 +8,7 @@
 /* What the proved side has: nine numbers of 8 bytes in an answer; in a state three 16-bit sizes, four tables
  * of 64 words, 64 levels, two ends of 256 edges, two tables of 1024 slots, two words, three bytes, one byte
  * of padding, 64 counts and two times 64 marks. */
-_Static_assert(sizeof(size_t) == 8, "the archive is for x86-64");
+_Static_assert(sizeof(size_t) == 8, "a size has 64 bits in the archive");
 _Static_assert(sizeof(struct hut_answer) == 9 * 8, "an answer");
 _Static_assert(sizeof(struct hut_read_result) == 12 * 8, "what reading answers");
 _Static_assert(sizeof(struct hut_state) == 6 + 4 * 128 + 64 + 2 * 256 + 2 * 1024 + 4 + 3 + 1 + 128 + 2 * 64, "a state");

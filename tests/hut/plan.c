@@ -1,5 +1,5 @@
-/* A plan as `desk c` writes it: `night` has the bytes of the plan file that this program is given, hut_read and hut_open
- * take them, and the first order is the plan's. The last line counts. */
+/* A plan as `desk c` writes it: `night` has the bytes of the file PLAN, hut_read and hut_open take them, and the first
+ * order is the plan's. The last line counts. */
 #include "hut.h"
 
 #include <stdio.h>
@@ -19,10 +19,10 @@ static void expect(const char *what, int good)
     }
 }
 
-int main(int count, char **words)
+int main(void)
 {
     static uint8_t file[HUT_MOST_PLAN_BYTES + 1];
-    FILE *in = count > 1 ? fopen(words[1], "rb") : NULL;
+    FILE *in = fopen(PLAN, "rb");
     size_t bytes = in ? fread(file, 1, sizeof file, in) : 0, same = 0;
     expect("the plan file's length", bytes > 0 && bytes == night_bytes);
     while (same < bytes && same < night_bytes && file[same] == night[same]) {
