@@ -86,12 +86,6 @@ impl Tables {
         }
     }
 
-    // One line further.
-    fn at(mut self, line: usize) -> Self {
-        self.here = line;
-        self
-    }
-
     // The line of a table's heading.
     fn heading(self, is_high: bool) -> usize {
         if is_high {
@@ -260,23 +254,18 @@ fn run_line(tables: Tables, list: &[u8], names: Names, line: &[u8]) -> Tables {
     tables.with_run(run)
 }
 
-// The heading of a table, where no line has it yet.
-fn heading(tables: Tables, is_high: bool) -> Tables {
+// A line of one word: the heading of a table that no line has begun yet.
+fn heading_line(tables: Tables, name: &[u8]) -> Tables {
+    let is_high = same(name, b"HI");
+    if !is_high {
+        if !same(name, b"LO") {
+            return tables.mistaken(Wrong::Neither, tables.here);
+        }
+    }
     if tables.heading(is_high) != 0 {
         return tables.mistaken(Wrong::Again, tables.here);
     }
     tables.headed(is_high)
-}
-
-// A line of one word.
-fn heading_line(tables: Tables, name: &[u8]) -> Tables {
-    if same(name, b"LO") {
-        return heading(tables, false);
-    }
-    if same(name, b"HI") {
-        return heading(tables, true);
-    }
-    tables.mistaken(Wrong::Neither, tables.here)
 }
 
 fn one_line(tables: Tables, list: &[u8], names: Names, line: &[u8]) -> Tables {
@@ -298,7 +287,8 @@ fn each_line(s: &[u8], list: &[u8], names: Names) -> Tables {
             break;
         }
         let to = find(s, at, b'\n');
-        tables = one_line(tables.at(i + 1), list, names, bare(part(s, at, to)));
+        tables.here = i + 1;
+        tables = one_line(tables, list, names, bare(part(s, at, to)));
         if tables.line != 0 {
             break;
         }

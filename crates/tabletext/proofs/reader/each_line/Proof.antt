@@ -20,11 +20,8 @@ loop-holds c = tt
 find-requires : tie.Need-find-requires Inv-loop μ-loop
 find-requires c κs = tt
 
-add-at : tie.Need-add-at Inv-loop μ-loop
-add-at c = omega arith
-
-at-requires : tie.Need-at-requires Inv-loop μ-loop
-at-requires c κs = tt
+add-tables : tie.Need-add-tables Inv-loop μ-loop
+add-tables c = omega arith
 
 part-requires : tie.Need-part-requires Inv-loop μ-loop
 part-requires c κs = tt
@@ -65,8 +62,7 @@ each-line-spec =
     none-requires
     loop-holds
     find-requires
-    add-at
-    at-requires
+    add-tables
     part-requires
     bare-requires
     one-line-requires
