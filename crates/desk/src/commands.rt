@@ -1,42 +1,21 @@
 // The commands, each with the files that it reads and writes.
 use files::complain;
 use files::send;
-use jobtext::Jobs;
 use jobtext::Names;
 use page::Page;
+use pairs::drawn;
+use pairs::given;
+use pairs::names_of;
+use pairs::read_jobs;
+use plans::Plan;
+use plans::high_of;
 use plans::list_of;
+use plans::low_of;
 use text::Decimal;
 use text::part;
-use text::same;
 
 // The most ticks that are made here.
 const MOST_MADE: usize = 100000;
-
-// What came of a text of jobs; and whether it was read, or why not was said.
-struct Listed {
-    jobs: Jobs,
-    is_read: bool,
-}
-
-// Reads a text of jobs.
-fn read_jobs(path: &[u8]) -> Listed {
-    let file = files::read(path);
-    if !file.is_read {
-        return Listed {
-            jobs: Jobs::none(),
-            is_read: false,
-        };
-    }
-    let bytes = file.bytes;
-    let jobs = jobtext::read(part(&bytes, 0, file.size));
-    if jobs.line != 0 {
-        complain(jobtext::put_mistake(Page::errors(), path, jobs));
-    }
-    Listed {
-        jobs: jobs,
-        is_read: jobs.line == 0,
-    }
-}
 
 // desk words
 pub(crate) fn words() {
@@ -49,8 +28,8 @@ fn save(path: &[u8], plan: &[u8], page: Page) {
     }
 }
 
-fn build_list(to: &[u8], list: &[u8], names: Names) {
-    let plan = plans::build(Page::output(), list, names);
+// Saves a plan that was made, or says why none was.
+fn keep(to: &[u8], plan: Plan) {
     let page = plan.page;
     let bytes = plan.bytes;
     if plan.size == 0 {
@@ -67,34 +46,23 @@ pub(crate) fn build(from: &[u8], to: &[u8]) {
         let jobs = listed.jobs;
         let list = jobs.list;
         let names = jobs.names;
-        build_list(to, part(&list, 0, jobs.size), names);
+        keep(
+            to,
+            plans::build(Page::output(), part(&list, 0, jobs.size), names),
+        );
     }
 }
 
-// The names of a plan's jobs; whether they were found, or why not was said; and whether they are of another list.
-struct Named {
-    names: Names,
-    is_read: bool,
-    is_other: bool,
-}
-
-// By their numbers, where no text is given.
-fn names_of(from: &[u8], plan: &[u8]) -> Named {
-    if from.len() == 0 {
-        return Named {
-            names: Names::none(),
-            is_read: true,
-            is_other: false,
-        };
-    }
-    let listed = read_jobs(from);
-    let jobs = listed.jobs;
-    let list = jobs.list;
-    let names = jobs.names;
-    Named {
-        names: names,
-        is_read: listed.is_read,
-        is_other: !same(part(&list, 0, jobs.size), list_of(plan)),
+// desk write JOBS TABLES PLAN
+pub(crate) fn write(from: &[u8], tables: &[u8], to: &[u8]) {
+    let pair = drawn(from, tables, Page::output());
+    if pair.is_read {
+        let bytes = pair.bytes;
+        let names = pair.names;
+        keep(
+            to,
+            plans::write(Page::output(), part(&bytes, 0, pair.size), names),
+        );
     }
 }
 
@@ -111,21 +79,19 @@ fn refuse(plan: &[u8], names: Names) {
     complain(plans::put_fault(Page::errors(), plan, names));
 }
 
-fn check_plan(path: &[u8], from: &[u8], plan: &[u8]) {
-    let named = names_of(from, plan);
-    if named.is_read {
-        let names = named.names;
-        send(plans::put_check(Page::output(), path, plan, names));
-        note(named.is_other);
-    }
-}
-
-// desk check PLAN [JOBS]
+// desk check PLAN [JOBS], and desk check JOBS TABLES
 pub(crate) fn check(path: &[u8], from: &[u8]) {
-    let file = files::read(path);
-    if file.is_read {
-        let bytes = file.bytes;
-        check_plan(path, from, part(&bytes, 0, file.size));
+    let pair = given(path, from, Page::output());
+    if pair.is_read {
+        let bytes = pair.bytes;
+        let names = pair.names;
+        let plan = part(&bytes, 0, pair.size);
+        if pair.is_drawn {
+            send(plans::put_drawn(Page::output(), path, from, plan, names));
+            return;
+        }
+        send(plans::put_check(Page::output(), path, plan, names));
+        note(pair.is_other);
     }
 }
 
@@ -171,26 +137,46 @@ fn tell_night(path: &[u8], plan: &[u8], names: Names, is_svg: bool) {
     send(nights::put_night(page, plan, names));
 }
 
-fn show_plan(path: &[u8], from: &[u8], plan: &[u8], is_svg: bool, is_why: bool) {
-    let named = names_of(from, plan);
-    let names = named.names;
-    if !named.is_read {
-        return;
+// The file that has the tables: a plan's, or the text of those that were drawn by hand.
+fn tables_file<'a>(path: &'a [u8], from: &'a [u8], is_drawn: bool) -> &'a [u8] {
+    if is_drawn {
+        return from;
     }
-    if is_why {
-        tell_night(path, plan, names, is_svg);
-    } else {
-        draw(plan, names, is_svg);
-    }
-    note(named.is_other);
+    path
 }
 
-// desk show PLAN [JOBS] [--svg], and desk why PLAN [JOBS] [--svg]
+// desk show PLAN [JOBS] [--svg], desk show JOBS TABLES [--svg], and desk why likewise
 pub(crate) fn show(path: &[u8], from: &[u8], is_svg: bool, is_why: bool) {
-    let file = files::read(path);
-    if file.is_read {
-        let bytes = file.bytes;
-        show_plan(path, from, part(&bytes, 0, file.size), is_svg, is_why);
+    let pair = given(path, from, Page::errors());
+    if pair.is_read {
+        let bytes = pair.bytes;
+        let names = pair.names;
+        let plan = part(&bytes, 0, pair.size);
+        if is_why {
+            tell_night(tables_file(path, from, pair.is_drawn), plan, names, is_svg);
+        } else {
+            draw(plan, names, is_svg);
+        }
+        note(pair.is_other);
+    }
+}
+
+// The text goes to the output by itself, as a picture does.
+fn put_text(plan: &[u8], names: Names) {
+    if plans::is_whole(plan) {
+        send(tabletext::put_pair(Page::output(), low_of(plan), high_of(plan), names));
+    }
+    refuse(plan, names);
+}
+
+// desk tables PLAN [JOBS], and desk tables JOBS TABLES
+pub(crate) fn tables(path: &[u8], from: &[u8]) {
+    let pair = given(path, from, Page::errors());
+    if pair.is_read {
+        let bytes = pair.bytes;
+        let names = pair.names;
+        put_text(part(&bytes, 0, pair.size), names);
+        note(pair.is_other);
     }
 }
 
@@ -218,6 +204,28 @@ fn is_runnable(plan: &[u8], names: Names) -> bool {
     }
     refuse(plan, names);
     false
+}
+
+fn put_c(plan: &[u8], name: &[u8]) {
+    if is_runnable(plan, Names::none()) {
+        send(ctext::put_source(Page::output(), plan, name));
+    }
+}
+
+// desk c PLAN NAME
+pub(crate) fn c(path: &[u8], name: &[u8]) {
+    if !ctext::is_name(name) {
+        let page = Page::errors();
+        complain(page.line(
+            b"desk c PLAN NAME: expected a name of C: letters, digits and _, no digit first, and no word that C has",
+        ));
+        return;
+    }
+    let file = files::read(path);
+    if file.is_read {
+        let bytes = file.bytes;
+        put_c(part(&bytes, 0, file.size), name);
+    }
 }
 
 fn run_ticks(ticks: &[u8], plan: &[u8], names: Names) {

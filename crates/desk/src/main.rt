@@ -29,7 +29,16 @@ fn run(b: &[u8], c: &[u8], d: &[u8], e: &[u8]) {
     commands::run(b, c, false, d);
 }
 
-// The commands that are given two files or more.
+// The command that is given three.
+fn on_texts(a: &[u8], b: &[u8], c: &[u8], d: &[u8]) {
+    if is(a, b"write") {
+        commands::write(b, c, d);
+        return;
+    }
+    help::say();
+}
+
+// The commands that are given two words or more.
 fn on_files(a: &[u8], b: &[u8], c: &[u8], d: &[u8], e: &[u8]) {
     if is(a, b"build") {
         commands::build(b, c);
@@ -39,7 +48,15 @@ fn on_files(a: &[u8], b: &[u8], c: &[u8], d: &[u8], e: &[u8]) {
         run(b, c, d, e);
         return;
     }
-    help::say();
+    if is(a, b"c") {
+        commands::c(b, c);
+        return;
+    }
+    if d.len() == 0 {
+        help::say();
+        return;
+    }
+    on_texts(a, b, c, d);
 }
 
 // The commands that are given a plan at least.
@@ -54,6 +71,10 @@ fn on_plan(a: &[u8], b: &[u8], c: &[u8], d: &[u8], e: &[u8]) {
     }
     if is(a, b"why") {
         show(b, c, d, true);
+        return;
+    }
+    if is(a, b"tables") {
+        commands::tables(b, c);
         return;
     }
     if is(a, b"list") {

@@ -4,7 +4,7 @@ use page::plus;
 use text::part;
 
 // The bytes that are read at most: one more than a file may have.
-const MOST: usize = 65536;
+pub const MOST: usize = 131072;
 
 // The longest path of a file with the end that its side file has.
 const PATH_ROOM: usize = 4104;
@@ -65,14 +65,14 @@ fn read_all(fd: i32, buf: &mut [u8]) -> usize {
 }
 
 fn read_open(fd: i32, path: &[u8]) -> File {
-    let mut bytes = io::large_buffer();
+    let mut bytes = [0u8; MOST];
     let size = read_all(fd, &mut bytes);
     if MOST < size {
         os::fail(path);
     }
     if size == MOST {
         let over = Page::errors().put(path);
-        complain(over.line(b": over 65,535 bytes, and no plan or job list is"));
+        complain(over.line(b": over 131,071 bytes, and no plan and no text of jobs or tables is"));
     }
     File {
         bytes: bytes,

@@ -6,6 +6,9 @@ use text::part;
 // What is no number of 16 bits.
 pub const NONE: usize = 65536;
 
+// No text has more lines: no file that is read has so many bytes.
+pub const MOST_LINES: usize = 131072;
+
 fn is_blank(x: u8) -> bool {
     if x == b' ' {
         return true;

@@ -66,7 +66,7 @@ impl Names {
     }
 
     // The job of a name; one past the last where there is none.
-    pub(crate) fn job_of(self, name: &[u8]) -> usize {
+    pub fn job_of(self, name: &[u8]) -> usize {
         for j in 0..MOST_JOBS {
             if self.is(j, name) {
                 return j;

@@ -1,4 +1,5 @@
 // A text read into a list's bytes, with the names of the jobs, to the first mistake.
+use crate::line::MOST_LINES;
 use crate::line::NONE;
 use crate::line::bare;
 use crate::line::number;
@@ -14,9 +15,6 @@ use page::after;
 use text::find;
 use text::part;
 use text::same;
-
-// No text has more lines.
-const MOST_LINES: usize = 65536;
 
 // What is wrong with a line.
 pub enum Wrong {

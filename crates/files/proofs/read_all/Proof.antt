@@ -11,7 +11,7 @@ abbrev Inv-loop : tie.InvT-loop
 Inv-loop fd buf₀ have₀ turn₀ buf have turn = length buf ≡ length buf₀
 
 abbrev μ-loop : tie.MeasureT-loop
-μ-loop fd buf₀ have₀ turn₀ buf have turn = 65536 - turn
+μ-loop fd buf₀ have₀ turn₀ buf have turn = 131072 - turn
 
 loop-holds : tie.Need-loop-holds Inv-loop μ-loop
 loop-holds c = refl

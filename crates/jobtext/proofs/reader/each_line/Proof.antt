@@ -9,7 +9,7 @@ abbrev Inv-loop : tie.InvT-loop
 Inv-loop s of-edges jobs₀ at₀ i₀ jobs at i = Unit {0}
 
 abbrev μ-loop : tie.MeasureT-loop
-μ-loop s of-edges jobs₀ at₀ i₀ jobs at i = 65536 - i
+μ-loop s of-edges jobs₀ at₀ i₀ jobs at i = 131072 - i
 
 loop-holds : tie.Need-loop-holds Inv-loop μ-loop
 loop-holds c = tt
