@@ -30,14 +30,6 @@ pub goes-on : (b : Bool) (w : Why) (t : Test) → b ≡ true → need b w ⨾ t 
 unfolding need _⨾_ pick
 goes-on b w t h = rw (h)
 
-pub after-refusal : (w : Why) (t : Test) → Refuse w ⨾ t ≡ Refuse w
-unfolding _⨾_
-after-refusal w t = refl
-
-pub after-pass : (t : Test) → Pass ⨾ t ≡ t
-unfolding _⨾_
-after-pass t = refl
-
 module _ (lim : Limits) (p : Plan) (r : Run) (tick : ℕ) (e : Bool) where
   pub step-bad : soundOn lim p (r .head) (r .units) ≡ false → stepOn lim p r tick e ≡ says (No BadState) r
   unfolding stepOn testOf answerOf pick

@@ -175,14 +175,18 @@ pub fn put_check(page: Page, path: &[u8], plan: &[u8], names: Names) -> Page {
     }
     let told = put_fault(page, plan, names);
     if is_whole(plan) {
-        return put_why(told.blank(4).left(b"why", 12).put(b"desk why ").put(path));
+        return put_why(told, path, b"");
     }
     told
 }
 
-// Where to see the fault happen: the end of the line.
-fn put_why(page: Page) -> Page {
-    page.line(b" shows a night on which it happens")
+// Where to see the fault happen: of a plan, or of a list with its tables.
+fn put_why(page: Page, path: &[u8], tables: &[u8]) -> Page {
+    let mut to = page.blank(4).left(b"why", 12).put(b"desk why ").put(path);
+    if tables.len() != 0 {
+        to = to.put(b" ").put(tables);
+    }
+    to.line(b" shows a night on which it happens")
 }
 
 // There is no such night.
@@ -197,9 +201,7 @@ pub fn put_drawn(page: Page, jobs: &[u8], path: &[u8], plan: &[u8], names: Names
         let named = page.put(b"yes: ").put(path).put(b": ");
         return put_counts(named, list_of(plan)).end();
     }
-    let told = put_fault(page, plan, names);
-    let to = told.blank(4).left(b"why", 12).put(b"desk why ");
-    put_why(to.put(jobs).put(b" ").put(path))
+    put_why(put_fault(page, plan, names), jobs, path)
 }
 
 // Both tables, with the fault where there is one.

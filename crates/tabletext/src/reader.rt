@@ -1,6 +1,6 @@
 // A text of two tables read into their bytes, to the first mistake.
-use joblist::IDLE;
 use joblist::MOST_SLOTS;
+use joblist::Table;
 use joblist::wide;
 use jobtext::Names;
 use jobtext::line::MOST_LINES;
@@ -182,7 +182,7 @@ fn entry(list: &[u8], names: Names, line: &[u8]) -> usize {
         return below(number(word(line, 2)), n);
     }
     if same(word(line, 1), b"idle") {
-        return wide(IDLE);
+        return wide(Table::IDLE);
     }
     below(names.job_of(word(line, 1)), n)
 }
