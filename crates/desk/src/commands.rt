@@ -137,26 +137,27 @@ fn tell_night(path: &[u8], plan: &[u8], names: Names, is_svg: bool) {
     send(nights::put_night(page, plan, names));
 }
 
-// The file that has the tables: a plan's, or the text of those that were drawn by hand.
-fn tables_file<'a>(path: &'a [u8], from: &'a [u8], is_drawn: bool) -> &'a [u8] {
-    if is_drawn {
-        return from;
+// The tables, or the night on which they go wrong; `path` is the file that has them.
+fn show_pair(path: &[u8], plan: &[u8], names: Names, is_svg: bool, is_why: bool) {
+    if is_why {
+        tell_night(path, plan, names, is_svg);
+        return;
     }
-    path
+    draw(plan, names, is_svg);
 }
 
-// desk show PLAN [JOBS] [--svg], desk show JOBS TABLES [--svg], and desk why likewise
+// desk show and desk why: PLAN [JOBS] [--svg], or JOBS TABLES [--svg]
 pub(crate) fn show(path: &[u8], from: &[u8], is_svg: bool, is_why: bool) {
     let pair = given(path, from, Page::errors());
     if pair.is_read {
         let bytes = pair.bytes;
         let names = pair.names;
         let plan = part(&bytes, 0, pair.size);
-        if is_why {
-            tell_night(tables_file(path, from, pair.is_drawn), plan, names, is_svg);
-        } else {
-            draw(plan, names, is_svg);
+        if pair.is_drawn {
+            show_pair(from, plan, names, is_svg, is_why);
+            return;
         }
+        show_pair(path, plan, names, is_svg, is_why);
         note(pair.is_other);
     }
 }
