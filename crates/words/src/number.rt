@@ -7,7 +7,7 @@ use text::find;
 use text::part;
 
 // A line for each number, and under it a line with what to do. The texts begin in the columns below.
-const TABLE: [u8; 3629] = *b"   1  the list does not have 1 to 64 jobs
+const TABLE: [u8; 3644] = *b"   1  the list does not have 1 to 64 jobs
       do: write one line for each job, 1 to 64 in all
    2  the list has more than 256 edges
       do: leave out edges that others give: a before b, b before c need no a before c
@@ -31,9 +31,9 @@ const TABLE: [u8; 3629] = *b"   1  the list does not have 1 to 64 jobs
       do: name the job in a later slot
   12  a job is named before a job that it waits for has finished
       do: name the job that it waits for in earlier slots
-  20  the low jobs alone do not meet their deadlines
+  20  the low jobs alone, earliest deadline first, miss a deadline
       do: give low jobs later deadlines, smaller budgets or fewer edges
-  21  the high jobs alone, with their high budgets, do not meet their deadlines
+  21  the high jobs alone, earliest deadline first and with CHI, miss a deadline
       do: give high jobs later deadlines or smaller high budgets
   22  a low job and a high job both have to run in this slot
       do: widen the window of a job that runs here, or make a budget smaller
