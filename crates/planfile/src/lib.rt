@@ -5,7 +5,8 @@ ghost use lib.ListN.{length, take, drop};
 ghost use Rattle.basics.specs.Bytes.{u32At};
 ghost use Rattle.basics.specs.Limits.{firstEdition};
 ghost use Rattle.basics.specs.Put.{put};
-ghost use Rattle.planfile.specs.Plan.{trailerBytes, trailer, planOf, leastBytes, lowAt, listOf, lowOf, highOf};
+ghost use Rattle.joblist.specs.Fields.{jobs, edges, slots};
+ghost use Rattle.planfile.specs.Plan.{trailerBytes, trailer, planOf, planBytes, leastBytes, lowAt, listOf, lowOf, highOf};
 ghost use Rattle.planfile.specs.Answer.{shapeOf, partsAnswer, readOf, writeOf, outAfter};
 ghost use Rattle.planfile.specs.Numbers.{readWhyNumber, readWhyPlace, readNumber, readPlace, writeWhyNumber, writeWhyPlace, wroteNumber, wrotePlace};
 use joblist::EDGE_BYTES;
@@ -197,8 +198,8 @@ pub fn write(list: &[u8], lo: &[u8], hi: &[u8], out: &mut [u8]) -> Wrote
     Wrote::Bytes(put_plan(list, lo, hi, out))
 }
 
-// The 32 bits at i.
-fn u32_at(s: &[u8], i: usize) -> usize
+// Inner: the 32 bits at i. The log reads a trailer so too.
+pub fn u32_at(s: &[u8], i: usize) -> usize
     requires { ⌜ i + 3 < length (now s) ⌝ }
     ensures { λ r. ⌜ r ≡ u32At (now (s .entry)) i ⌝ }
 {
@@ -214,6 +215,14 @@ fn low_at(plan: &[u8]) -> usize
     ensures { λ r. ⌜ (r ≡ lowAt (now (plan .entry))) × (r < 1000000) ⌝ }
 {
     HEAD_BYTES + JOB_BYTES * joblist::jobs_of(plan) + EDGE_BYTES * joblist::edges_of(plan)
+}
+
+// Inner: the length that the counts give a plan. The log finds a plan's end so too.
+pub fn size_of(plan: &[u8]) -> usize
+    requires { ⌜ leastBytes ≤ length (now plan) ⌝ }
+    ensures { λ r. ⌜ (r ≡ planBytes (jobs (now (plan .entry))) (edges (now (plan .entry))) (slots (now (plan .entry)))) × (r < 2000000) ⌝ }
+{
+    low_at(plan) + 2 * joblist::slots_of(plan) + TRAILER_BYTES
 }
 
 // k bytes from `at` on, as many of them as are there.
@@ -281,7 +290,7 @@ fn read_parts(plan: &[u8]) -> ReadAnswer
     requires { ⌜ leastBytes ≤ length (now plan) ⌝ }
     ensures { λ r. ⌜ r ≡ partsAnswer firstEdition (now (plan .entry)) ⌝ }
 {
-    let whole = low_at(plan) + 2 * joblist::slots_of(plan) + TRAILER_BYTES;
+    let whole = size_of(plan);
     let f = joblist::check_front(plan, whole);
     if let ListAnswer::No(w) = f {
         return ReadAnswer::No(ReadWhy::Checked(Objection::OfList(w)));

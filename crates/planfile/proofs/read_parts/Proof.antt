@@ -8,20 +8,8 @@ use Rattle.planfile.proofs.Rows.{parts-list, parts-check, parts-plan}
 use Rattle.planfile.proofs.read_parts.Statement.{statement}
 use Rattle.planfile.proofs.read_parts.Tie as tie
 
-low-at-requires : tie.Need-low-at-requires
-low-at-requires c κs = search needs
-
-slots-of-requires : tie.Need-slots-of-requires
-slots-of-requires c κs = search needs
-
-mul-whole : tie.Need-mul-whole
-mul-whole c = search needs
-
-add-whole : tie.Need-add-whole
-add-whole c = search needs
-
-add-whole-2 : tie.Need-add-whole-2
-add-whole-2 c = search needs
+size-of-requires : tie.Need-size-of-requires
+size-of-requires c κs = search needs
 
 check-front-requires : tie.Need-check-front-requires
 check-front-requires c κs = search needs
@@ -30,7 +18,7 @@ enum-known-f : tie.Need-enum-known-f
 enum-known-f c = search needs
 
 returns : tie.Need-returns
-returns c = parts-list _ _ _ (let b = c .before .before .before .before in omega (arith, b .slots-of .ensures .0, b .before .low-at .ensures .0)) _ (sym (c .before .before .before .check-front .ensures) ∙ c .before .f .given .1)
+returns c = parts-list _ _ _ (c .before .before .before .before .size-of .ensures .0) _ (sym (c .before .before .before .check-front .ensures) ∙ c .before .f .given .1)
 
 enum-told : tie.Need-enum-told
 enum-told c = search needs
@@ -53,7 +41,7 @@ enum-known-v c = search needs
 returns-2 : tie.Need-returns-2
 returns-2 c = let b = c .before .before .before in
     let f = b .before .before .before .before .before .before in
-    parts-check _ _ _ (omega (arith, f .before .slots-of .ensures .0, f .before .before .low-at .ensures .0)) (sym (f .check-front .ensures) ∙ b .before .before .before .before .enum-told .given .1) (b .before .before .before .list-of .ensures) (b .before .before .low-of .ensures) (b .before .high-of .ensures) _ (sym (b .check .ensures) ∙ c .before .v .given .1)
+    parts-check _ _ _ (f .before .size-of .ensures .0) (sym (f .check-front .ensures) ∙ b .before .before .before .before .enum-told .given .1) (b .before .before .before .list-of .ensures) (b .before .before .low-of .ensures) (b .before .high-of .ensures) _ (sym (b .check .ensures) ∙ c .before .v .given .1)
 
 enum-told-2 : tie.Need-enum-told-2
 enum-told-2 c = search needs
@@ -64,17 +52,13 @@ shape-of-requires c κs = search needs
 returns-3 : tie.Need-returns-3
 returns-3 c = let b = c .before .before .before in
     let f = b .before .before .before .before .before .before in
-    ap Plan (c .shape-of .ensures) ∙ parts-plan _ _ _ (omega (arith, f .before .slots-of .ensures .0, f .before .before .low-at .ensures .0)) (sym (f .check-front .ensures) ∙ b .before .before .before .before .enum-told .given .1) (b .before .before .before .list-of .ensures) (b .before .before .low-of .ensures) (b .before .high-of .ensures) (sym (b .check .ensures) ∙ c .before .enum-told2 .given .1)
+    ap Plan (c .shape-of .ensures) ∙ parts-plan _ _ _ (f .before .size-of .ensures .0) (sym (f .check-front .ensures) ∙ b .before .before .before .before .enum-told .given .1) (b .before .before .before .list-of .ensures) (b .before .before .low-of .ensures) (b .before .high-of .ensures) (sym (b .check .ensures) ∙ c .before .enum-told2 .given .1)
 
 pub read-parts-spec : {M : Type 1} → statement M
 read-parts-spec =
     tie.close
     (tie.spec
-    low-at-requires
-    slots-of-requires
-    mul-whole
-    add-whole
-    add-whole-2
+    size-of-requires
     check-front-requires
     enum-known-f
     returns
