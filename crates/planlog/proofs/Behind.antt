@@ -9,14 +9,14 @@ use lib.ListN.{length, take, drop, replicate, length-drop, take-append-drop}
 use lib.Seq.{length-take-le, take-at, drop-append-le, take-append-le, getD-drop}
 use Rattle.basics.specs.Limits.{Limits}
 use Rattle.planfile.specs.Round.{AllBytes}
-use Rattle.planlog.specs.Walk.{planAt, endOf, walk, lastIn, lastEnd}
+use Rattle.logwalk.specs.Walk.{planAt, endOf, walk, lastIn, lastEnd}
 use Rattle.planlog.specs.Writes.{zeros, after}
-use Rattle.planlog.specs.Answer.{bytesOf, newestIn}
+use Rattle.logwalk.specs.Answer.{bytesOf, newestIn}
 use Rattle.planlog.specs.Cut.{Kept}
-use Rattle.planlog.specs.declared.Found.the-variants.{Plan as Whole}
-use Rattle.planlog.specs.declared.Span.{Span}
-use Rattle.planlog.proofs.Here.{behind-plan}
-use Rattle.planlog.proofs.Plans.{Plans, walk-plans, walk-ends, end-within, walk-is, plans-front}
+use Rattle.logwalk.specs.declared.Found.the-variants.{Plan as Whole}
+use Rattle.logwalk.specs.declared.Span.{Span}
+use Rattle.logwalk.proofs.Here.{behind-plan}
+use Rattle.logwalk.proofs.Plans.{Plans, walk-plans, walk-ends, end-within, walk-is, plans-front}
 use Rattle.planlog.proofs.Writes.{zeros-form}
 
 -- a store: its whole plans, and what is behind them

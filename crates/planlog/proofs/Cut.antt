@@ -12,16 +12,17 @@ use borrow.Author.Tests.{le-leb}
 use Rattle.basics.specs.Limits.{Limits}
 use Rattle.basics.proofs.Tests.{not-both}
 use Rattle.planfile.specs.Round.{AllBytes}
-use Rattle.planlog.specs.Walk.{accepts, sizeOf, sizeAt, planAt, spanAt, walk, lastEnd}
+use Rattle.logwalk.specs.Walk.{accepts, sizeOf, sizeAt, planAt, spanAt, walk, lastEnd}
 use Rattle.planlog.specs.Writes.{writesOf, storeAfter}
-use Rattle.planlog.specs.Answer.{storeMost, appendOf, cutStore, appendedStore, newestOf}
+use Rattle.logwalk.specs.Answer.{storeMost, newestOf}
+use Rattle.planlog.specs.Answer.{appendOf, cutStore, appendedStore}
 use Rattle.planlog.specs.Cut.{newSpan, Old, New, Safe}
 use Rattle.planlog.specs.declared.AppendWhy.{AppendWhy}
 use Rattle.planlog.specs.declared.Appended.the-variants.{At, No as NotAppended}
-use Rattle.planlog.proofs.Reader.{long, size}
-use Rattle.planlog.proofs.Here.{size-least, size-front, front-plan, behind-plan, behind-size}
+use Rattle.logwalk.proofs.Reader.{long, size}
+use Rattle.logwalk.proofs.Here.{size-least, size-front, front-plan, behind-plan, behind-size}
 use Rattle.planlog.proofs.Cutoff.{cut-off}
-use Rattle.planlog.proofs.Plans.{Plans, stop, more, plans-join, walk-is}
+use Rattle.logwalk.proofs.Plans.{Plans, stop, more, plans-join, walk-is}
 use Rattle.planlog.proofs.Rows.{append-yes, cut-leaves, append-leaves, cut-whole}
 use Rattle.planlog.proofs.Behind.{front, rest, front-length, old-plans, rest-none, stays, rest-bytes, kept, newest-snoc}
 use Rattle.planlog.proofs.Form.{total, same-size, planned, started, made, append-form}

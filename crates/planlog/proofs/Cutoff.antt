@@ -12,9 +12,9 @@ use Rattle.basics.specs.Limits.{Limits}
 use Rattle.basics.proofs.At.{getD-past, zeros-at}
 use Rattle.planfile.specs.Round.{AllBytes}
 use Rattle.joblist.proofs.Tested.{not-so}
-use Rattle.planlog.specs.Walk.{sizeOf, bytesAt, planAt}
-use Rattle.planlog.proofs.Reader.{last}
-use Rattle.planlog.proofs.Here.{size-least, size-front, size-take, taken, plan-size}
+use Rattle.logwalk.specs.Walk.{sizeOf, bytesAt, planAt}
+use Rattle.logwalk.proofs.Reader.{last}
+use Rattle.logwalk.proofs.Here.{size-least, size-front, size-take, taken, plan-size}
 
 -- past the end there are zeros, so that every place has a byte
 any-byte : (s : List ℕ) → AllBytes s → (i : ℕ) → getD s i 0 < 256

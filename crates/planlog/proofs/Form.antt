@@ -8,7 +8,7 @@ use native.Mathlib.Decide.{decLt}
 use lib.ListN.{length, take, replicate}
 use lib.Seq.{take-all, take-length, take-append-le, take-append-add}
 use Rattle.basics.specs.Limits.{Limits}
-use Rattle.planlog.specs.Walk.{lastEnd}
+use Rattle.logwalk.specs.Walk.{lastEnd}
 use Rattle.planlog.specs.Writes.{zeros, copies, writesAt, writesOf, noWrite, nthWrite, written, after, storeAfter}
 use Rattle.planlog.specs.Answer.{appendOf, cutStore, appendedStore}
 use Rattle.planlog.specs.Cut.{OneByOne}

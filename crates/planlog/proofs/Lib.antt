@@ -1,13 +1,7 @@
-pub mod Reader
-pub mod Here
 pub mod Cutoff
-pub mod Plans
-pub mod Steps
 pub mod Writes
 pub mod Rows
 pub mod Behind
 pub mod Form
 pub mod Cut
-pub mod Back
-pub mod Meaning
 pub mod Cases

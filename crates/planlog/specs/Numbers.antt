@@ -7,10 +7,6 @@ use Rattle.planlog.specs.declared.AppendWhy.{AppendWhy}
 use Rattle.planlog.specs.declared.AppendWhy.the-variants.{Large, Refused, Full}
 use Rattle.planlog.specs.declared.Appended.{Appended}
 use Rattle.planlog.specs.declared.Appended.the-variants.{At, No as NotAppended}
-use Rattle.planlog.specs.declared.FindWhy.{FindWhy}
-use Rattle.planlog.specs.declared.FindWhy.the-variants.{Large as TooLarge, Empty}
-use Rattle.planlog.specs.declared.Found.{Found}
-use Rattle.planlog.specs.declared.Found.the-variants.{Plan as Whole, No as NotFound}
 
 -- why nothing was appended: its number
 abbrev pub appendWhyNumber : AppendWhy → ℕ
@@ -32,13 +28,3 @@ appendNumber (NotAppended w) = appendWhyNumber w
 abbrev pub appendPlace : Appended → Spot
 appendPlace (At start) = nowhere
 appendPlace (NotAppended w) = appendWhyPlace w
-
--- why no plan was found: its number
-abbrev pub findWhyNumber : FindWhy → ℕ
-findWhyNumber TooLarge = 52
-findWhyNumber Empty = 51
-
--- a plan found: 0 for yes
-abbrev pub foundNumber : Found → ℕ
-foundNumber (Whole p) = 0
-foundNumber (NotFound w) = findWhyNumber w

@@ -6,7 +6,7 @@ use mathlib.Core.List.{List, [], _∷_, _++_}
 use lib.ListN.{length, getD, take, set}
 use lib.Dec.{leb}
 use Rattle.basics.specs.Limits.{Limits}
-use Rattle.planlog.specs.Walk.{lastEnd}
+use Rattle.logwalk.specs.Walk.{lastEnd}
 use Rattle.planlog.specs.declared.Write.{Write}
 
 -- n zeros, from the place n - 1 past `end` back to `end`

@@ -1,30 +1,19 @@
-// Plans kept back to back in one store: appended so that a cut of power loses none, and found again.
+// A log of plans in one store: appended so that a cut of power loses none.
 ghost use mathlib.Core.Path.{_≡_};
 ghost use Prim.Native.Nat.{_+_, _-_, _≤_, min};
 ghost use lib.ListN.{length, take};
 ghost use Rattle.basics.specs.Limits.{firstEdition};
-ghost use Rattle.planlog.specs.Walk.{wholeAt, noSpan, lastIn, walk, endOf};
 ghost use Rattle.planlog.specs.Writes.{zeros, copies, writesAt, after, noWrite, nthWrite};
-ghost use Rattle.planlog.specs.Answer.{appendOf, cutStore, appendedStore, newestOf, previousOf};
-ghost use Rattle.planlog.specs.Numbers.{appendWhyNumber, appendWhyPlace, appendNumber, appendPlace, findWhyNumber, foundNumber};
+ghost use Rattle.planlog.specs.Answer.{appendOf, cutStore, appendedStore};
+ghost use Rattle.planlog.specs.Numbers.{appendWhyNumber, appendWhyPlace, appendNumber, appendPlace};
 use joblist::Place;
-use planfile::LEAST_BYTES;
+use logwalk::STORE_MOST;
 use planfile::ReadAnswer;
 use planfile::ReadWhy;
-use planfile::TRAILER_BYTES;
 use verdict::Spot;
-
-// No store is larger: 64 KiB.
-pub const STORE_MOST: usize = 65536;
 
 // No append writes more bytes: each byte of the store at most twice.
 pub const WRITES_MOST: usize = 2 * STORE_MOST;
-
-// A plan in a store: where it begins, and how many bytes it has.
-pub struct Span {
-    pub start: usize,
-    pub size: usize,
-}
 
 // One byte written into a store.
 pub struct Write {
@@ -43,17 +32,6 @@ pub enum AppendWhy {
 pub enum Appended {
     At(usize),
     No(AppendWhy),
-}
-
-// Why no plan was found.
-pub enum FindWhy {
-    Large,
-    Empty,
-}
-
-pub enum Found {
-    Plan(Span),
-    No(FindWhy),
 }
 
 // The paper's number of a refused append.
@@ -97,78 +75,6 @@ pub fn append_place(a: Appended) -> Spot
     }
 }
 
-// The paper's number where no plan was found.
-pub fn find_why_number(w: FindWhy) -> usize
-    ensures { λ r. ⌜ r ≡ findWhyNumber w ⌝ }
-{
-    match w {
-        FindWhy::Large => 52,
-        FindWhy::Empty => 51,
-    }
-}
-
-// A plan found: 0 for yes.
-pub fn found_number(f: Found) -> usize
-    ensures { λ r. ⌜ r ≡ foundNumber f ⌝ }
-{
-    match f {
-        Found::Plan(_) => 0,
-        Found::No(w) => find_why_number(w),
-    }
-}
-
-// The size of the accepted plan that begins at `at`; 0 where none does.
-fn size_at(store: &[u8], at: usize) -> usize
-    requires { ⌜ at ≤ length (now store) ⌝ }
-    ensures { λ r. ⌜ r ≡ wholeAt firstEdition (now (store .entry)) at ⌝ }
-{
-    let n = store.len();
-    if n - at < LEAST_BYTES {
-        return 0;
-    }
-    let size = planfile::size_of(&store[at..n]);
-    if n - at < size {
-        return 0;
-    }
-    let r = planfile::read(&store[at..at + size]);
-    if let ReadAnswer::No(_) = r {
-        return 0;
-    }
-    size
-}
-
-// The last whole plan, by the walk from the front; no bytes at 0 where there is none.
-fn last_of(store: &[u8]) -> Span
-    ensures { λ r. ⌜ (r ≡ lastIn noSpan (walk firstEdition (now (store .entry)))) × (endOf r ≤ length (now (store .entry))) ⌝ }
-{
-    let mut start = 0;
-    let mut end = 0;
-    let mut size = size_at(store, 0);
-    while size != 0 {
-        start = end;
-        end = end + size;
-        size = size_at(store, end);
-    }
-    Span {
-        start: start,
-        size: end - start,
-    }
-}
-
-// The newest whole plan of a store: its place and size.
-pub fn newest(store: &[u8]) -> Found
-    ensures { λ r. ⌜ r ≡ newestOf firstEdition (now (store .entry)) ⌝ }
-{
-    if STORE_MOST < store.len() {
-        return Found::No(FindWhy::Large);
-    }
-    let last = last_of(store);
-    if last.size == 0 {
-        return Found::No(FindWhy::Empty);
-    }
-    Found::Plan(last)
-}
-
 // Where an append puts the plan, or why it does not. It only reads.
 pub fn room_for(store: &[u8], plan: &[u8]) -> Appended
     ensures { λ r. ⌜ r ≡ appendOf firstEdition (now (store .entry)) (now (plan .entry)) ⌝ }
@@ -180,7 +86,7 @@ pub fn room_for(store: &[u8], plan: &[u8]) -> Appended
     if let ReadAnswer::No(w) = r {
         return Appended::No(AppendWhy::Refused(w));
     }
-    let last = last_of(store);
+    let last = logwalk::last_of(store);
     let end = last.start + last.size;
     if store.len() - end < plan.len() {
         return Appended::No(AppendWhy::Full);
@@ -247,35 +153,6 @@ pub fn append(store: &mut [u8], plan: &[u8]) -> Appended
         × (now (store .exit) ≡ appendedStore firstEdition (now (store .entry)) (now (plan .entry))) ⌝ }
 {
     append_cut(store, plan, WRITES_MOST)
-}
-
-// The accepted plan that ends at `end`: its trailer's distance leads back to its start. From the newest plan's end, and then from each start, this lists the plans newest first.
-pub fn previous(store: &[u8], end: usize) -> Found
-    ensures { λ r. ⌜ r ≡ previousOf firstEdition (now (store .entry)) end ⌝ }
-{
-    let n = store.len();
-    if STORE_MOST < n {
-        return Found::No(FindWhy::Large);
-    }
-    if n < end {
-        return Found::No(FindWhy::Empty);
-    }
-    if end < LEAST_BYTES {
-        return Found::No(FindWhy::Empty);
-    }
-    let back = planfile::u32_at(store, end - TRAILER_BYTES);
-    if end - TRAILER_BYTES < back {
-        return Found::No(FindWhy::Empty);
-    }
-    let start = end - TRAILER_BYTES - back;
-    let r = planfile::read(&store[start..end]);
-    if let ReadAnswer::No(_) = r {
-        return Found::No(FindWhy::Empty);
-    }
-    Found::Plan(Span {
-        start: start,
-        size: end - start,
-    })
 }
 
 // No write: its place is past the store.

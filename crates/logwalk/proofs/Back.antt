@@ -16,15 +16,15 @@ use Rattle.planfile.specs.declared.ReadAnswer.the-variants.{Plan, No}
 use Rattle.planfile.specs.declared.ReadWhy.{ReadWhy}
 use Rattle.planfile.specs.declared.Shape.{Shape}
 use Rattle.joblist.proofs.Tested.{not-so}
-use Rattle.planlog.specs.Walk.{accepts, sizeAt, planAt, spanAt, walk, lastIn, lastEnd}
-use Rattle.planlog.specs.Answer.{storeMost, newestIn, newestOf, startBefore, spanBefore, bytesOf, previousOf}
-use Rattle.planlog.specs.Back.{backFrom, newestFirst}
-use Rattle.planlog.specs.declared.FindWhy.the-variants.{Large as TooLarge, Empty}
-use Rattle.planlog.specs.declared.Found.the-variants.{Plan as Whole, No as NotFound}
-use Rattle.planlog.specs.declared.Span.{Span}
-use Rattle.planlog.proofs.Reader.{long, back, none, accept-plan, accept-no}
-use Rattle.planlog.proofs.Here.{size-least, taken, plan-fits}
-use Rattle.planlog.proofs.Plans.{Plans, stop, more, plans-rise, walk-plans, end-within}
+use Rattle.logwalk.specs.Walk.{accepts, sizeAt, planAt, spanAt, walk, lastIn, lastEnd}
+use Rattle.logwalk.specs.Answer.{storeMost, newestIn, newestOf, startBefore, spanBefore, bytesOf, previousOf}
+use Rattle.logwalk.specs.Back.{backFrom, newestFirst}
+use Rattle.logwalk.specs.declared.FindWhy.the-variants.{Large as TooLarge, Empty}
+use Rattle.logwalk.specs.declared.Found.the-variants.{Plan as Whole, No as NotFound}
+use Rattle.logwalk.specs.declared.Span.{Span}
+use Rattle.logwalk.proofs.Reader.{long, back, none, accept-plan, accept-no}
+use Rattle.logwalk.proofs.Here.{size-least, taken, plan-fits}
+use Rattle.logwalk.proofs.Plans.{Plans, stop, more, plans-rise, walk-plans, end-within}
 
 -- a number within a part of the store
 pub u32-part : (s : List ℕ) (at k i : ℕ) → i + 3 < k → u32At (take k (drop at s)) i ≡ u32At s (at + i)

@@ -11,8 +11,8 @@ use Rattle.basics.specs.Limits.{Limits}
 use Rattle.joblist.proofs.Tested.{not-so}
 use Rattle.planfile.specs.Plan.{leastBytes}
 use Rattle.planfile.proofs.Front.{front-jobs, front-edges, front-slots}
-use Rattle.planlog.specs.Walk.{accepts, sizeOf, sizeAt, bytesAt, planAt}
-use Rattle.planlog.proofs.Reader.{long, size}
+use Rattle.logwalk.specs.Walk.{accepts, sizeOf, sizeAt, bytesAt, planAt}
+use Rattle.logwalk.proofs.Reader.{long, size}
 
 -- no plan is shorter than its head and its trailer
 pub size-least : (s : List ℕ) → leastBytes ≤ sizeOf s

@@ -11,11 +11,11 @@ use native.Mathlib.Decide.{decLe}
 use Rattle.basics.specs.Limits.{Limits}
 use Rattle.basics.proofs.Tests.{not-both}
 use Rattle.joblist.proofs.Tested.{not-so}
-use Rattle.planlog.specs.Walk.{accepts, sizeOf, sizeAt, bytesAt, planAt, walkFrom, walk, lastEnd}
-use Rattle.planlog.specs.declared.Span.{Span}
-use Rattle.planlog.proofs.Reader.{long, size}
-use Rattle.planlog.proofs.Here.{size-take}
-use Rattle.planlog.proofs.Plans.{Plans, stop, more, plans-join, walked, walk-plans, walk-ends, walk-is}
+use Rattle.logwalk.specs.Walk.{accepts, sizeOf, sizeAt, bytesAt, planAt, walkFrom, walk, lastEnd}
+use Rattle.logwalk.specs.declared.Span.{Span}
+use Rattle.logwalk.proofs.Reader.{long, size}
+use Rattle.logwalk.proofs.Here.{size-take}
+use Rattle.logwalk.proofs.Plans.{Plans, stop, more, plans-join, walked, walk-plans, walk-ends, walk-is}
 
 -- an accepted plan that begins at `at`, of whatever length, is the one that the walk finds there
 pub begins : (lim : Limits) (s : List ℕ) (at k : ℕ) → accepts lim (take k (drop at s)) ≡ true → (planAt lim s at ≡ true) × (take k (drop at s) ≡ bytesAt s at)
