@@ -63,11 +63,10 @@ fn size_at(store: &[u8], at: usize) -> usize
     if n - at < size {
         return 0;
     }
-    let r = planfile::read(&store[at..at + size]);
-    if let ReadAnswer::No(_) = r {
-        return 0;
+    match planfile::read(&store[at..at + size]) {
+        ReadAnswer::Plan(_) => size,
+        ReadAnswer::No(_) => 0,
     }
-    size
 }
 
 // Inner: the last whole plan, by the walk from the front; no bytes at 0 where there is none.
@@ -121,12 +120,12 @@ pub fn previous(store: &[u8], end: usize) -> Found
         return Found::No(FindWhy::Empty);
     }
     let start = end - TRAILER_BYTES - back;
-    let r = planfile::read(&store[start..end]);
-    if let ReadAnswer::No(_) = r {
-        return Found::No(FindWhy::Empty);
-    }
-    Found::Plan(Span {
+    let p = Span {
         start: start,
         size: end - start,
-    })
+    };
+    match planfile::read(&store[start..end]) {
+        ReadAnswer::Plan(_) => Found::Plan(p),
+        ReadAnswer::No(_) => Found::No(FindWhy::Empty),
+    }
 }
