@@ -2,7 +2,8 @@
 //! protocol leaves open, stands in `desk`.
 
 use crate::damage;
-use crate::desk::{hex, LENT, MOST_BYTES, MOST_LINE, MOST_ROOM, UNREADABLE};
+use crate::desk::{LENT, MOST_LINE, MOST_ROOM, UNREADABLE};
+use crate::fields::{hex, MOST_BYTES};
 use crate::kinds::{self, Case};
 use crate::list::{MOST_EDGES, MOST_JOBS, MOST_SLOTS};
 use crate::lists::{self, Shape};

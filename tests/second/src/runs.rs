@@ -1,7 +1,7 @@
 //! Requests to the dispatcher: runs that cross tick 65535, with ticks lost, stale and repeated.
 
 use crate::damage;
-use crate::desk::hex;
+use crate::fields::hex;
 use crate::kinds::{self, Case, VERDICTS};
 use crate::plan::{self, IDLE};
 use crate::random::Random;

@@ -1,6 +1,6 @@
 //! Lines that cannot be read, and readable ones that look odd.
 
-use crate::desk::hex;
+use crate::fields::hex;
 use crate::lists;
 use crate::random::Random;
 use crate::script::Script;
