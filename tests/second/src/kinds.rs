@@ -4,6 +4,7 @@ use crate::build;
 use crate::check;
 use crate::list::List;
 use crate::lists;
+use crate::plan;
 use crate::random::Random;
 use crate::refusal::{Refusal, NO_SWITCH};
 
@@ -79,6 +80,13 @@ pub fn case(random: &mut Random) -> Case {
     }
     let kind = random.pick(&VERDICTS);
     case_of_kind(random, kind)
+}
+
+/// An accepted plan of a small list, mostly with a switch.
+pub fn small_plan(random: &mut Random) -> Vec<u8> {
+    let kind = random.pick(&[VERDICTS[0], VERDICTS[1], VERDICTS[1]]);
+    let Case { list, lo, hi } = case_of_kind(random, kind);
+    plan::compose(&list.bytes(), &lo, &hi)
 }
 
 /// A small list for the builder, with each of its answers as the aim.

@@ -21,7 +21,7 @@ impl Whole {
 }
 
 /// The plan that begins at a place: as many bytes as its counts give, all in the store, accepted.
-fn whole_at(store: &[u8], start: usize) -> Option<Whole> {
+pub fn whole_at(store: &[u8], start: usize) -> Option<Whole> {
     let rest = &store[start..];
     let size = Head::read(rest.get(..HEAD_BYTES)?).ok()?.plan_size();
     plan::read(rest.get(..size)?).ok()?;
