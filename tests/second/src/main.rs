@@ -1,6 +1,7 @@
 //! The second program: document 01 once more, in plain code that shares nothing with the proved
 //! code, to compare that with.
 
+mod ask;
 mod build;
 mod check;
 mod compare;
@@ -15,6 +16,7 @@ mod limits;
 mod list;
 mod lists;
 mod log;
+mod logs;
 mod plan;
 mod pokes;
 mod random;

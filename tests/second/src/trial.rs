@@ -1,14 +1,10 @@
 //! One append that is cut short: the requests for it, and what request 2026-01 claims of it, tried
 //! on this program's own store.
 
-use crate::fields::hex;
+use crate::ask;
 use crate::log::{self, Append, Whole};
 use crate::refusal::Refusal;
 use crate::script::Script;
-use crate::store::MOST_PEEKED;
-
-/// How many bytes one `put` has at most, so that its line is not too long.
-const MOST_PUT: usize = 12_000;
 
 /// A store, a plan whose append is cut short, and a plan that is appended after that.
 pub struct Trial {
@@ -25,13 +21,12 @@ impl Trial {
 
     /// Sets the store up, cuts the append and looks; appends what is next and looks again.
     pub fn ask(&self, script: &mut Script, count: usize) -> Result<(), &'static str> {
-        set_up(script, &self.before, count);
-        script.ask(&format!("cut {} {count}", hex(&self.plan)));
+        ask::set_up(script, &self.before, count);
+        ask::cut(script, &self.plan, count);
         let claims = self.claims(&script.desk.store.bytes, count);
-        script.ask("newest");
-        look(script);
-        script.ask(&format!("append {}", hex(&self.next)));
-        look(script);
+        ask::look(script);
+        ask::append(script, &self.next);
+        ask::look(script);
         claims
     }
 
@@ -88,21 +83,4 @@ fn appended(store: &[u8], plan: &[u8]) -> Result<(usize, Vec<u8>), Refusal> {
     let mut after = store.to_vec();
     append.write(&mut after, append.writes.len());
     Ok((append.start, after))
-}
-
-/// Makes the store what is given; `value` stands in it for the moment.
-fn set_up(script: &mut Script, store: &[u8], value: usize) {
-    script.ask(&format!("store {} {}", store.len(), value % 256));
-    for (number, part) in store.chunks(MOST_PUT).enumerate() {
-        script.ask(&format!("put {} {}", MOST_PUT * number, hex(part)));
-    }
-}
-
-/// The plans newest first, and every byte of the store.
-fn look(script: &mut Script) {
-    script.ask("listed");
-    let size = script.desk.store.bytes.len();
-    for at in (0..size).step_by(MOST_PEEKED) {
-        script.ask(&format!("peek {at} {}", MOST_PEEKED.min(size - at)));
-    }
 }
