@@ -47,6 +47,9 @@ fn filled(script: &mut Script, random: &mut Random, free: usize) -> usize {
 
 /// An append, or one that is cut, often where it tells the most.
 fn append_or_cut(script: &mut Script, random: &mut Random, plan: &[u8]) {
+    if random.chance(10) {
+        ask::unread(script, random, plan);
+    }
     if random.chance(40) {
         return ask::append(script, plan);
     }
@@ -145,7 +148,7 @@ fn at_the_limits(script: &mut Script, random: &mut Random) {
     let limits = [0, 1, least - 1, least, MOST_STORE - 1, MOST_STORE, MOST_STORE + 1, MOST_SIZE];
     let size = random.pick(&limits);
     ask::fill(script, size, random.pick(&[0, 1, 255]));
-    past_the_end(script, random);
+    ask::past_the_end(script, random);
     if least <= size {
         ask::put(script, random.pick(&[0, size - least]), &plan);
     }
@@ -157,22 +160,6 @@ fn at_the_limits(script: &mut Script, random: &mut Random) {
         script.ask(&format!("peek 0 {shown}"));
         script.ask(&format!("peek {} {shown}", size - shown));
     }
-}
-
-/// Places just past the end cannot be read; those at the end, of no bytes, can.
-fn past_the_end(script: &mut Script, random: &mut Random) {
-    let size = script.desk.store.bytes.len();
-    let past = [
-        format!("put {size} 00"),
-        format!("put {} -", size + 1),
-        format!("put {} 0000", size.max(1) - 1),
-        format!("peek {size} 1"),
-        format!("peek {} 0", size + 1),
-        format!("peek {} 2", size.max(1) - 1),
-    ];
-    script.ask_unreadable(past[random.below(past.len())].as_bytes());
-    script.ask(&format!("put {size} -"));
-    script.ask(&format!("peek {size} 0"));
 }
 
 /// The store is the log's alone, and the state the dispatcher's; neither minds an unreadable line.

@@ -1,6 +1,7 @@
 //! Lines that cannot be read, and readable ones that look odd.
 
 use crate::fields::hex;
+use crate::kinds;
 use crate::lists;
 use crate::random::Random;
 use crate::script::Script;
@@ -138,8 +139,11 @@ pub fn request(script: &mut Script, random: &mut Random) {
         4 => script.ask(random.pick(&ODD)),
         5 => script.ask_unreadable(&any_bytes(random)),
         _ => {
-            let (word, bytes) =
-                (random.pick(&["build", "open", "cut"]), lists::small(random).bytes());
+            let (word, bytes) = match random.below(3) {
+                0 => ("build", lists::small(random).bytes()),
+                1 => ("open", kinds::small_plan(random)),
+                _ => ("cut", kinds::small_plan(random)),
+            };
             script.ask_unreadable(&spoilt(random, word, &hex(&bytes)));
         }
     }
