@@ -1,7 +1,8 @@
 //! Damage to bytes that were sound: aimed at the fields, at the ends, or anywhere.
 
+use crate::kinds::Case;
 use crate::list::{List, HEAD_BYTES, JOB_BYTES};
-use crate::plan::{IDLE, TRAILER_BYTES};
+use crate::plan::{self, IDLE, TRAILER_BYTES};
 use crate::random::Random;
 
 /// One to three hurts to a list's bytes, so that the order of the refusals shows.
@@ -17,6 +18,21 @@ pub fn list_bytes(random: &mut Random, list: &List) -> Vec<u8> {
         }
     }
     bytes
+}
+
+/// A plan's bytes: accepted, failing the check, or damaged.
+pub fn plan_of(random: &mut Random, case: Case) -> Vec<u8> {
+    let Case { list, mut lo, mut hi } = case;
+    let bytes = if random.chance(35) { list_bytes(random, &list) } else { list.bytes() };
+    if random.chance(12) {
+        let hurt = if random.chance(50) { &mut lo } else { &mut hi };
+        table(random, &list, hurt);
+    }
+    let mut plan = plan::compose(&bytes, &lo, &hi);
+    if random.chance(25) {
+        plan_bytes(random, &mut plan);
+    }
+    plan
 }
 
 /// One or two hurts to a plan's bytes, mostly at its trailer and its ends.

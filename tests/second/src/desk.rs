@@ -12,13 +12,14 @@ use std::slice::from_mut;
 use crate::build;
 use crate::check;
 use crate::dispatch;
+use crate::fields::{bytes, hex, mark, number, word};
 use crate::list::{self, MOST_JOBS};
 use crate::plan;
 use crate::refusal::Refusal;
 use crate::state::State;
+use crate::store::Store;
 
 pub const MOST_LINE: usize = 400_000;
-pub const MOST_BYTES: usize = 65_536;
 pub const MOST_ROOM: usize = 4_096;
 /// What lent memory holds before the call.
 pub const LENT: u8 = 0xaa;
@@ -26,13 +27,15 @@ pub const LENT: u8 = 0xaa;
 /// The answer to a line that cannot be read.
 pub const UNREADABLE: &str = "?";
 
+/// What the requests are about: the dispatcher's state and the log's store.
 pub struct Desk {
     pub state: State,
+    pub store: Store,
 }
 
 impl Desk {
     pub fn new() -> Desk {
-        Desk { state: State::zero() }
+        Desk { state: State::zero(), store: Store::new() }
     }
 
     pub fn answer(&mut self, line: &[u8]) -> String {
@@ -44,9 +47,9 @@ impl Desk {
     fn answer_fields(&mut self, line: &[u8]) -> Option<String> {
         let fields: Vec<&[u8]> = line.split(|&byte| byte == b' ').collect();
         match fields[..] {
-            [b"list", list] => Some(number(&list::read(&bytes(list)?))),
+            [b"list", list] => Some(said(&list::read(&bytes(list)?))),
             [b"check", list, lo, hi] => {
-                Some(number(&check::check(&bytes(list)?, &bytes(lo)?, &bytes(hi)?)))
+                Some(said(&check::check(&bytes(list)?, &bytes(lo)?, &bytes(hi)?)))
             }
             [b"write", list, lo, hi, room] => {
                 let (list, lo, hi) = (bytes(list)?, bytes(lo)?, bytes(hi)?);
@@ -63,37 +66,33 @@ impl Desk {
                 poke(&mut self.state, field, word(index)?.into(), word(value)?)?;
                 Some(format!("0{}", shown(&self.state)))
             }
-            _ => None,
+            _ => self.store.answer(&fields),
         }
     }
 
     fn open(&mut self, plan: &[u8], first: u16) -> String {
         let (answer, state) = dispatch::open(plan, first);
         self.state = state;
-        number(&answer) + &shown(&self.state)
+        said(&answer) + &shown(&self.state)
     }
 
     fn step(&mut self, tick: u16, ended: bool) -> String {
         let answer = self.state.step(tick, ended);
         let order = answer.map_or(String::new(), |job| format!(" order={job}"));
-        number(&answer) + &order + &shown(&self.state)
+        said(&answer) + &order + &shown(&self.state)
     }
 }
 
 /// The number and its place, 0 for yes.
-pub fn number<T>(answer: &Result<T, Refusal>) -> String {
+pub fn said<T>(answer: &Result<T, Refusal>) -> String {
     answer.as_ref().map_or_else(Refusal::to_string, |_| "0".to_string())
 }
 
 /// Lends ROOM bytes to the call and shows all of them afterwards.
 fn lend(room: &[u8], call: impl Fn(&mut [u8]) -> Result<(), Refusal>) -> Option<String> {
-    let room = usize::from(word(room)?);
-    if room > MOST_ROOM {
-        return None;
-    }
-    let mut out = vec![LENT; room];
+    let mut out = vec![LENT; number(room, MOST_ROOM)?];
     let answer = call(&mut out);
-    Some(format!("{} out={}", number(&answer), hex(&out)))
+    Some(format!("{} out={}", said(&answer), hex(&out)))
 }
 
 fn read(bytes: &[u8]) -> String {
@@ -162,43 +161,4 @@ fn poke(state: &mut State, field: &[u8], index: usize, value: u16) -> Option<()>
         b"cut" => set_byte(&mut state.cut),
         _ => None,
     }
-}
-
-fn word(field: &[u8]) -> Option<u16> {
-    let digits = !field.is_empty() && field.iter().all(u8::is_ascii_digit);
-    let text = std::str::from_utf8(field).ok().filter(|_| digits)?;
-    text.parse().ok()
-}
-
-fn mark(field: &[u8]) -> Option<bool> {
-    match word(field)? {
-        0 => Some(false),
-        1 => Some(true),
-        _ => None,
-    }
-}
-
-fn bytes(field: &[u8]) -> Option<Vec<u8>> {
-    if field == b"-" {
-        return Some(Vec::new());
-    }
-    if field.is_empty() || field.len() % 2 != 0 || field.len() / 2 > MOST_BYTES {
-        return None;
-    }
-    field.chunks(2).map(|pair| Some(nibble(pair[0])? << 4 | nibble(pair[1])?)).collect()
-}
-
-fn nibble(digit: u8) -> Option<u8> {
-    match digit {
-        b'0'..=b'9' => Some(digit - b'0'),
-        b'a'..=b'f' => Some(digit - b'a' + 10),
-        _ => None,
-    }
-}
-
-pub fn hex(bytes: &[u8]) -> String {
-    if bytes.is_empty() {
-        return "-".to_string();
-    }
-    bytes.iter().map(|byte| format!("{byte:02x}")).collect()
 }

@@ -146,7 +146,7 @@ pub fn compare(seed: u64, count: usize) -> (Script, Result<(), String>) {
         let request = requests::check_of(&case);
         script.ask(&request);
         if !agree(&case) {
-            let verdict = desk::number(&case.verdict());
+            let verdict = desk::said(&case.verdict());
             outcome = Err(format!("the executions do not bear out {verdict}: {request}"));
         }
         for kind in kinds_of(&case) {

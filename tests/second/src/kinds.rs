@@ -2,8 +2,10 @@
 
 use crate::build;
 use crate::check;
+use crate::damage;
 use crate::list::List;
 use crate::lists;
+use crate::plan;
 use crate::random::Random;
 use crate::refusal::{Refusal, NO_SWITCH};
 
@@ -79,6 +81,31 @@ pub fn case(random: &mut Random) -> Case {
     }
     let kind = random.pick(&VERDICTS);
     case_of_kind(random, kind)
+}
+
+/// An accepted plan of a small list, mostly with a switch.
+pub fn small_plan(random: &mut Random) -> Vec<u8> {
+    let kind = random.pick(&[VERDICTS[0], VERDICTS[1], VERDICTS[1]]);
+    let Case { list, lo, hi } = case_of_kind(random, kind);
+    plan::compose(&list.bytes(), &lo, &hi)
+}
+
+/// The bytes of a small plan that the reader refuses, with the number as the aim.
+pub fn refused_plan(random: &mut Random, number: &str) -> Vec<u8> {
+    let refused =
+        |bytes: &Vec<u8>| plan::read(bytes).is_err_and(|no| no.number.to_string() == number);
+    let mut damaged = || {
+        let case = if random.chance(20) { ring_case(random) } else { small_case(random) };
+        damage::plan_of(random, case)
+    };
+    draw_until(&mut damaged, refused)
+}
+
+/// A list with a ring of edges, and tables of its length.
+pub fn ring_case(random: &mut Random) -> Case {
+    let list = lists::with_a_ring(random);
+    let (lo, hi) = (vec![0; list.length], vec![0; list.length]);
+    Case { list, lo, hi }
 }
 
 /// A small list for the builder, with each of its answers as the aim.

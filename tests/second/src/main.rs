@@ -1,17 +1,22 @@
 //! The second program: document 01 once more, in plain code that shares nothing with the proved
 //! code, to compare that with.
 
+mod ask;
 mod build;
 mod check;
 mod compare;
+mod cuts;
 mod damage;
 mod desk;
 mod dispatch;
 mod executions;
+mod fields;
 mod kinds;
 mod limits;
 mod list;
 mod lists;
+mod log;
+mod logs;
 mod plan;
 mod pokes;
 mod random;
@@ -20,6 +25,9 @@ mod requests;
 mod runs;
 mod script;
 mod state;
+mod store;
+mod stores;
+mod trial;
 mod unreadable;
 mod vectors;
 
@@ -32,6 +40,7 @@ const USAGE: &str = "\
 second vectors REQUESTS ANSWERS                  the cases that document 01 works on paper
 second executions SEED COUNT REQUESTS ANSWERS    small lists, every execution tried
 second requests SEED COUNT REQUESTS ANSWERS      requests of every kind
+second cuts SEED COUNT REQUESTS ANSWERS          appends to the log, cut short at every byte
     each writes requests and the answers that they should get to the two files, says what came,
     and fails where this program is at odds with itself or some kind never came
 second answers                                   answers the requests on standard input
@@ -57,6 +66,9 @@ fn command(words: &[&str]) -> Result<(), String> {
         }
         ["requests", seed, count, requests, answers] => {
             save(requests::make(number(seed)?, number(count)? as usize), requests, answers)
+        }
+        ["cuts", seed, count, requests, answers] => {
+            save(cuts::make(number(seed)?, number(count)? as usize), requests, answers)
         }
         ["answers"] => answer().map_err(|error| error.to_string()),
         ["compare", ref files @ ..] if !files.is_empty() && files.len() % 3 == 0 => {

@@ -25,7 +25,7 @@ pub fn read(bytes: &[u8]) -> Result<Plan<'_>, Refusal> {
     if trailer[4..] != MARK {
         return Err(Refusal::bare(41));
     }
-    if trailer[..4] != (front.len() as u32).to_le_bytes() {
+    if distance(trailer) != front.len() {
         return Err(Refusal::bare(42));
     }
     let head = Head::read(bytes)?;
@@ -37,6 +37,11 @@ pub fn read(bytes: &[u8]) -> Result<Plan<'_>, Refusal> {
     let (lo, hi) = tables.split_at(head.length);
     check::tables(&list, lo, hi)?;
     Ok(Plan { list, list_bytes, lo, hi })
+}
+
+/// How far back from a trailer its plan begins.
+pub fn distance(trailer: &[u8]) -> usize {
+    u32::from_le_bytes([trailer[0], trailer[1], trailer[2], trailer[3]]) as usize
 }
 
 /// The bytes of a plan, accepted or not.

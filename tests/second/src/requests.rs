@@ -2,10 +2,12 @@
 //! protocol leaves open, stands in `desk`.
 
 use crate::damage;
-use crate::desk::{hex, LENT, MOST_BYTES, MOST_LINE, MOST_ROOM, UNREADABLE};
+use crate::desk::{LENT, MOST_LINE, MOST_ROOM, UNREADABLE};
+use crate::fields::{hex, MOST_BYTES};
 use crate::kinds::{self, Case};
 use crate::list::{MOST_EDGES, MOST_JOBS, MOST_SLOTS};
 use crate::lists::{self, Shape};
+use crate::logs;
 use crate::plan;
 use crate::pokes;
 use crate::random::Random;
@@ -18,6 +20,17 @@ const NUMBERS: [&str; 33] = [
     "0", "40", "41", "42", "1", "2", "3", "43", "44", "6", "4", "5", "7", "8", "9", "45", "10",
     "11", "12", "46", "20", "21", "22", "23", "24", "37", "32", "30", "33", "31", "34", "35",
     UNREADABLE,
+];
+
+/// The answers that some words must get besides: the log's, and to its appends those of the reader.
+const OF_THE_LOG: [(&[&str], &[&str]); 7] = [
+    (&["append", "cut"], &logs::REFUSALS),
+    (&["append"], &["0", "50", "52", UNREADABLE]),
+    (&["cut"], &["0", "50", "52", UNREADABLE]),
+    (&["newest"], &["0", "51", "52", UNREADABLE]),
+    (&["listed"], &["0", "51", "52", UNREADABLE]),
+    (&["put"], &["0", UNREADABLE]),
+    (&["store", "peek"], &["0", UNREADABLE]),
 ];
 
 /// At least `count` requests.
@@ -33,27 +46,36 @@ pub fn make(seed: u64, count: usize) -> (Script, Result<(), String>) {
     }
     // the last line is written without its newline, and an empty one would then be none
     script.ask("list -");
-    let numbers = script.numbers();
-    let mut outcome = Ok(());
-    for number in NUMBERS {
-        println!("{:>7}  {number}", numbers.get(number).unwrap_or(&0));
-        if !numbers.contains_key(number) {
-            outcome = Err(format!("never came: {number}"));
-        }
-    }
+    let outcome = all_came(&script);
     (script, outcome)
 }
 
+fn all_came(script: &Script) -> Result<(), String> {
+    let mut outcome = Ok(());
+    for (words, numbers) in [(&[][..], &NUMBERS[..])].into_iter().chain(OF_THE_LOG) {
+        for number in numbers {
+            let count = script.came(words, number);
+            let what = [&[*number], words].concat().join(" ");
+            println!("{count:>7}  {what}");
+            if count == 0 {
+                outcome = Err(format!("never came: {what}"));
+            }
+        }
+    }
+    outcome
+}
+
 fn scene(script: &mut Script, random: &mut Random) {
-    match random.below(100) {
+    match random.below(106) {
         0..14 => script.ask(&format!("list {}", hex(&list_bytes(random)))),
         14..34 => check_request(script, random),
         34..44 => write_request(script, random),
         44..66 => build_request(script, random),
-        66..82 => script.ask(&format!("read {}", hex(&plan_bytes(random)))),
+        66..82 => read_request(script, random),
         82..89 => unreadable::request(script, random),
         89..93 => runs::run(script, random),
-        _ => pokes::poked_run(script, random),
+        93..100 => pokes::poked_run(script, random),
+        _ => logs::scene(script, random),
     }
 }
 
@@ -80,9 +102,7 @@ fn case(random: &mut Random) -> Case {
         return kinds::case(random);
     }
     if random.chance(10) {
-        let list = lists::with_a_ring(random);
-        let (lo, hi) = (vec![0; list.length], vec![0; list.length]);
-        return Case { list, lo, hi };
+        return kinds::ring_case(random);
     }
     let list = lists::any(random);
     let (lo, hi) = lists::tables(random, &list);
@@ -115,6 +135,11 @@ fn write_request(script: &mut Script, random: &mut Random) {
     script.ask(&format!("write {fields} {room}"));
 }
 
+fn read_request(script: &mut Script, random: &mut Random) {
+    let case = case(random);
+    script.ask(&format!("read {}", hex(&damage::plan_of(random, case))));
+}
+
 fn build_request(script: &mut Script, random: &mut Random) {
     let aimed = random.chance(60);
     let list = if aimed { kinds::list_to_build(random) } else { lists::any(random) };
@@ -131,21 +156,6 @@ fn room(random: &mut Random, size: usize) -> usize {
         85..98 => random.below(size),
         _ => MOST_ROOM,
     }
-}
-
-/// A plan's bytes: accepted, failing the check, or damaged.
-fn plan_bytes(random: &mut Random) -> Vec<u8> {
-    let Case { list, mut lo, mut hi } = case(random);
-    let bytes = if random.chance(35) { damage::list_bytes(random, &list) } else { list.bytes() };
-    if random.chance(12) {
-        let table = if random.chance(50) { &mut lo } else { &mut hi };
-        damage::table(random, &list, table);
-    }
-    let mut plan = plan::compose(&bytes, &lo, &hi);
-    if random.chance(25) {
-        damage::plan_bytes(random, &mut plan);
-    }
-    plan
 }
 
 /// Lists at each limit and one past it: among them the largest of all.

@@ -1,9 +1,9 @@
 //! Requests to the dispatcher: runs that cross tick 65535, with ticks lost, stale and repeated.
 
 use crate::damage;
-use crate::desk::hex;
-use crate::kinds::{self, Case, VERDICTS};
-use crate::plan::{self, IDLE};
+use crate::fields::hex;
+use crate::kinds;
+use crate::plan::IDLE;
 use crate::random::Random;
 use crate::script::Script;
 use crate::unreadable;
@@ -52,9 +52,7 @@ fn accepted_plan(random: &mut Random) -> Vec<u8> {
         let list = kinds::list_that_builds(random);
         return kinds::built(&list).expect("this list builds");
     }
-    let kind = random.pick(&[VERDICTS[0], VERDICTS[1], VERDICTS[1]]);
-    let Case { list, lo, hi } = kinds::case_of_kind(random, kind);
-    plan::compose(&list.bytes(), &lo, &hi)
+    kinds::small_plan(random)
 }
 
 fn open(script: &mut Script, random: &mut Random, plan: &[u8]) {

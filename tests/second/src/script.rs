@@ -1,6 +1,5 @@
 //! A text of requests beside the answers that they should get.
 
-use std::collections::BTreeMap;
 use std::{fs, io};
 
 use crate::desk::{Desk, UNREADABLE};
@@ -46,14 +45,15 @@ impl Script {
         self.desk.answer(request.as_bytes())
     }
 
-    /// How often each answer number came.
-    pub fn numbers(&self) -> BTreeMap<&str, usize> {
-        let mut numbers = BTreeMap::new();
-        for answer in &self.answers {
-            let number = answer.split(' ').next().unwrap_or_default();
-            *numbers.entry(number).or_default() += 1;
-        }
-        numbers
+    /// How often an answer number came to one of the words, or to any line where none is given.
+    pub fn came(&self, words: &[&str], number: &str) -> usize {
+        let is_meant = |request: &[u8]| {
+            let word = request.split(|&byte| byte == b' ').next().unwrap_or_default();
+            words.is_empty() || words.iter().any(|meant| meant.as_bytes() == word)
+        };
+        let pairs = self.requests.iter().zip(&self.answers);
+        let with = pairs.filter(|(_, answer)| answer.split(' ').next() == Some(number));
+        with.filter(|(request, _)| is_meant(request)).count()
     }
 
     /// The last request is left without its newline: it must be answered all the same.

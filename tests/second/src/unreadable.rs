@@ -1,12 +1,13 @@
 //! Lines that cannot be read, and readable ones that look odd.
 
-use crate::desk::hex;
+use crate::fields::hex;
+use crate::kinds;
 use crate::lists;
 use crate::random::Random;
 use crate::script::Script;
 
 /// Lines with one thing wrong each.
-const WRONG: [&str; 55] = [
+const WRONG: [&str; 96] = [
     "",
     " ",
     "?",
@@ -62,10 +63,52 @@ const WRONG: [&str; 55] = [
     "poke hi 0 256",
     "poke  0 0",
     "poke slot 65536 0",
+    "store 5",
+    "store 5 0 0",
+    "store 70001 0",
+    "store 5 256",
+    "store - 0",
+    "store 5 ff",
+    "put 0",
+    "put 0 - -",
+    "put 70001 -",
+    "put 70000 00",
+    "put - -",
+    "put -1 -",
+    "put 0 0",
+    "put 0 0A",
+    "put 0 ",
+    "append",
+    "append ",
+    "append 0",
+    "append 0G",
+    "append - -",
+    "append - 0",
+    "cut -",
+    "cut - 200001",
+    "cut - 99999999999999999999999",
+    "cut - -",
+    "cut - 0 0",
+    "cut 0 0",
+    "cut 0 -",
+    "newest 0",
+    "newest ",
+    " newest",
+    "Newest",
+    "listed 0",
+    "listed -",
+    "peek 0",
+    "peek 0 0 0",
+    "peek 0 4097",
+    "peek 70001 0",
+    "peek 70000 1",
+    "peek - 0",
+    "peek 0 -",
 ];
 
-/// Odd, and to be read all the same. The index of a single field is 0, however it is written.
-const ODD: [&str; 7] = [
+/// Odd, and to be read all the same. The index of a single field is 0, however it is written. None
+/// changes the log's store.
+const ODD: [&str; 12] = [
     "list -",
     "check - - -",
     "build 00 004096",
@@ -73,9 +116,15 @@ const ODD: [&str; 7] = [
     "step 007 01",
     "poke tick 000 0000065535",
     "poke lo 1023 000255",
+    "put 000 -",
+    "append -",
+    "cut - 0",
+    "cut - 0000200000",
+    "peek 00 0",
 ];
 
 pub fn each_once(script: &mut Script) {
+    script.ask("store 0000070000 00255");
     for line in WRONG {
         script.ask_unreadable(line.as_bytes());
     }
@@ -90,8 +139,12 @@ pub fn request(script: &mut Script, random: &mut Random) {
         4 => script.ask(random.pick(&ODD)),
         5 => script.ask_unreadable(&any_bytes(random)),
         _ => {
-            let request = format!("build {} 60", hex(&lists::small(random).bytes()));
-            script.ask_unreadable(&spoilt(random, &request));
+            let (word, bytes) = match random.below(3) {
+                0 => ("build", lists::small(random).bytes()),
+                1 => ("open", kinds::small_plan(random)),
+                _ => ("cut", kinds::small_plan(random)),
+            };
+            script.ask_unreadable(&spoilt(random, word, &hex(&bytes)));
         }
     }
 }
@@ -101,20 +154,20 @@ fn any_bytes(random: &mut Random) -> Vec<u8> {
     bytes.filter(|&byte| byte != b'\n').collect()
 }
 
-/// A good `build` request with one thing spoilt, somewhere in it.
-fn spoilt(random: &mut Random, request: &str) -> Vec<u8> {
-    let mut line = request.as_bytes().to_vec();
-    let digits = "build ".len()..line.len() - " 60".len();
+/// A good request of bytes and a number with one thing spoilt, somewhere in it.
+fn spoilt(random: &mut Random, word: &str, hex: &str) -> Vec<u8> {
+    let mut line = format!("{word} {hex} 60").into_bytes();
+    let digits = word.len() + 1..line.len() - " 60".len();
     let digit = random.within(digits.start, digits.end - 1);
     match random.below(6) {
         0 => {
             line.remove(digit);
         }
         1 => line[digit] = random.pick(b"ABCDEFGg/:@`-. \t\x00\x80\xff"),
-        2 => line.insert(random.pick(&[0, "build ".len(), digits.end, line.len()]), b' '),
+        2 => line.insert(random.pick(&[0, digits.start, digits.end, line.len()]), b' '),
         3 => line.truncate(digits.end),
-        4 => line.extend(random.pick(&[b" 0", b" -", b"\r\r", b"00", b" 6"])),
-        _ => line[random.below("build".len())] ^= b' ',
+        4 => line.extend_from_slice(random.pick(&[&b" 0"[..], b" -", b"\r\r", b"00000", b" 6"])),
+        _ => line[random.below(word.len())] ^= b' ',
     }
     line
 }

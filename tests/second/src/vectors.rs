@@ -1,4 +1,5 @@
-//! The cases that document 01 works on paper, and one for 24, with answers written by hand.
+//! The cases that document 01 works on paper, one for 24, and a session with the log of request
+//! 2026-01, with answers written by hand.
 
 use crate::script::Script;
 
@@ -14,6 +15,7 @@ fn cases() -> Vec<(String, String)> {
     let mut cases = builds();
     cases.extend(checks());
     cases.extend(steps());
+    cases.extend(log());
     cases
 }
 
@@ -83,6 +85,26 @@ fn steps() -> Vec<(String, String)> {
         cases.push((format!("step {tick} 0"), no.to_string() + &state(0, 0, 1, halted, fresh)));
     }
     cases
+}
+
+/// The log's session: two cuts of one append, among its zeros and one byte before its end.
+fn log() -> Vec<(String, String)> {
+    let p8 = format!("{A}010100ffff000000ffff2600000054545031");
+    let cases = [
+        ("store 100 255".to_string(), "0"),
+        ("newest".to_string(), "51"),
+        (format!("append {P1}"), "0 at=0"),
+        ("put 46 aabbcc".to_string(), "0"),
+        (format!("cut {P1} 52"), "0 at=46"),
+        ("peek 45 6".to_string(), "0 bytes=31aabb000000"),
+        (format!("cut {P1} 99"), "0 at=46"),
+        ("newest".to_string(), "0 at=0 size=46"),
+        (format!("cut {P1} 100"), "0 at=46"),
+        ("listed".to_string(), "0 at=46,0"),
+        (format!("append {P1}"), "50"),
+        (format!("append {p8}"), "10 slot=5 job=0 switch=2"),
+    ];
+    cases.map(|(request, answer)| (request, answer.to_string())).to_vec()
 }
 
 /// The cases as a script, and whether this program answers each as the paper does.
