@@ -1,11 +1,14 @@
 // Requests, a line each: what a line asks, with its bytes decoded; and a field of the dispatcher's state, set to any value.
 mod decoded;
 mod fields;
+mod log;
 mod poke;
 mod request;
 
 pub use decoded::Decoded;
 pub use decoded::decode;
+pub use log::LogRequest;
+pub use log::MOST_STORE;
 pub use poke::poked;
 pub use request::MOST_LINE;
 pub use request::MOST_ROOM;
