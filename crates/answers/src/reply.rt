@@ -5,6 +5,7 @@ use dispatch::state::State;
 use machine::answer::Answer;
 use page::Page;
 use planfile::ReadAnswer;
+use poke::poked;
 use replytext::put_build_place;
 use replytext::put_bytes;
 use replytext::put_place;
@@ -14,7 +15,6 @@ use requests::Decoded;
 use requests::LogRequest;
 use requests::MOST_ROOM;
 use requests::Request;
-use requests::poked;
 use text::part;
 
 // What lent bytes hold before a call.

@@ -6,7 +6,7 @@ use crate::request::Request;
 use crate::request::asked;
 use crate::request::number;
 
-// No store has more bytes, and none begins further: more than a log may have, so that it can say so.
+// No store has more bytes, and no place is further: more than a log may have, so that 52 can be seen.
 pub const MOST_STORE: usize = 70000;
 
 const MOST_BYTE: usize = 255;

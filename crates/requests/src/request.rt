@@ -6,8 +6,8 @@ use crate::fields::field;
 use crate::fields::place_in;
 use crate::log::LogRequest;
 use crate::log::log_request_of;
-use crate::poke::field_of;
-use crate::poke::kind_of;
+use poke::NAMES;
+use poke::kind_of;
 use text::Decimal;
 
 // A longer line is not kept, and cannot be read.
@@ -79,7 +79,7 @@ fn read_step(line: &[u8]) -> Request {
 }
 
 fn read_poke(line: &[u8]) -> Request {
-    let f = field_of(field(line, 1));
+    let f = place_in(&NAMES, field(line, 1));
     let kind = kind_of(f);
     let i = number(line, 2, MOST_NUMBER);
     let v = number(line, 3, kind.most);
