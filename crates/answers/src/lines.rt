@@ -8,6 +8,7 @@ use page::less;
 use page::lower;
 use page::plus;
 use requests::MOST_LINE;
+use requests::MOST_STORE;
 use requests::decode;
 use requests::request_of;
 use text::find;
@@ -32,11 +33,12 @@ struct Run {
     is_over: bool,
 }
 
-// Before the first open the state is all zero.
+// Before the first open the state is all zero, and before the first store there is none.
 fn fresh() -> Run {
     let desk = Desk {
         page: Page::output(),
         state: call::zero(),
+        size: 0,
     };
     Run {
         desk: desk,
@@ -46,23 +48,24 @@ fn fresh() -> Run {
 }
 
 // Answers a line.
-fn answer(desk: Desk, line: &[u8], room: &mut [u8]) -> Desk {
+fn answer(desk: Desk, line: &[u8], room: &mut [u8], store: &mut [u8]) -> Desk {
     let b = decode(line, room);
-    reply(desk, request_of(line, b), room, b)
+    reply(desk, request_of(line, b), room, b, store)
 }
 
-// Answers every line that ends in the input.
-fn take_lines(desk: Desk, input: &[u8], room: &mut [u8]) -> Taken {
+// Answers every line that ends in the input, and sends the answers.
+fn take_lines(desk: Desk, input: &[u8], room: &mut [u8], store: &mut [u8]) -> Taken {
     let mut d = desk;
     let mut from: usize = 0;
     let mut e = find(input, 0, b'\n');
     while e < input.len() {
-        d = answer(d, part(input, from, e), room);
+        let line = part(input, from, e);
         from = e + 1;
+        d = answer(d, line, room, store);
         e = find(input, from, b'\n');
     }
     Taken {
-        desk: d,
+        desk: d.sent(),
         from: from,
     }
 }
@@ -113,10 +116,10 @@ fn keep(input: &mut [u8], from: usize, size: usize) -> usize {
 }
 
 // One read, with the answers to what it ends.
-fn turn(run: Run, input: &mut [u8], room: &mut [u8]) -> Run {
+fn turn(run: Run, input: &mut [u8], room: &mut [u8], store: &mut [u8]) -> Run {
     let size = read_behind(input, run.held);
-    let t = take_lines(run.desk, part(input, 0, size), room);
-    let desk = t.desk.sent();
+    let t = take_lines(run.desk, part(input, 0, size), room, store);
+    let desk = t.desk;
     Run {
         desk: desk,
         held: keep(input, t.from, size),
@@ -125,10 +128,10 @@ fn turn(run: Run, input: &mut [u8], room: &mut [u8]) -> Run {
 }
 
 // Reads to the end of the input. A proved loop ends, and nothing says that the input does: so turns are counted, to a number that no run reaches.
-fn take_all(start: Run, input: &mut [u8], room: &mut [u8]) {
+fn take_all(start: Run, input: &mut [u8], room: &mut [u8], store: &mut [u8]) {
     let mut run = start;
     for i in 0..u64::MAX {
-        run = turn(run, input, room);
+        run = turn(run, input, room, store);
         if run.is_over {
             return;
         }
@@ -139,5 +142,6 @@ fn take_all(start: Run, input: &mut [u8], room: &mut [u8]) {
 pub(crate) fn answer_all() {
     let mut input = [0u8; INPUT];
     let mut room = [0u8; MOST_DECODED];
-    take_all(fresh(), &mut input, &mut room);
+    let mut store = [0u8; MOST_STORE];
+    take_all(fresh(), &mut input, &mut room, &mut store);
 }

@@ -2,7 +2,6 @@
 mod call;
 mod lines;
 mod reply;
-mod say;
 mod show;
 
 fn main() {

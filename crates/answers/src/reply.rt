@@ -1,38 +1,50 @@
 // The answer to each request, by the proved calls.
 use crate::call;
-use crate::say::put_build_place;
-use crate::say::put_bytes;
-use crate::say::put_place;
-use crate::say::put_spot;
-use crate::say::put_verdict;
 use crate::show::put_state;
 use dispatch::state::State;
 use machine::answer::Answer;
 use page::Page;
 use planfile::ReadAnswer;
+use poke::poked;
+use replytext::put_build_place;
+use replytext::put_bytes;
+use replytext::put_place;
+use replytext::put_spot;
+use replytext::put_verdict;
 use requests::Decoded;
+use requests::LogRequest;
 use requests::MOST_ROOM;
 use requests::Request;
-use requests::poked;
 use text::part;
 
 // What lent bytes hold before a call.
 const LENT: u8 = 0xaa;
 
-// The answers, and the dispatcher's state.
+// The answers, the dispatcher's state, and how many bytes the store has.
 pub(crate) struct Desk {
     pub page: Page,
     pub state: State,
+    pub size: usize,
 }
 
 impl Desk {
     // Sends the answers that are gathered.
-    pub(crate) fn sent(self) -> Self {
-        let state = self.state;
-        Desk {
-            page: self.page.sent(),
-            state: state,
-        }
+    pub(crate) fn sent(mut self) -> Self {
+        self.page = self.page.sent();
+        self
+    }
+
+    // With one more answer, and the state that it shows.
+    fn stated(mut self, page: Page, state: State) -> Self {
+        self.page = put_state(page, state);
+        self.state = state;
+        self
+    }
+
+    // With one more answer.
+    fn answered(mut self, page: Page) -> Self {
+        self.page = page.end();
+        self
     }
 }
 
@@ -89,18 +101,14 @@ fn reply_read(page: Page, plan: &[u8]) -> Page {
     }
 }
 
-fn reply_open(page: Page, plan: &[u8], first: usize) -> Desk {
+fn reply_open(d: Desk, plan: &[u8], first: usize) -> Desk {
     let o = call::open(plan, first);
     let a = o.answer;
-    let state = o.state;
     let next = put_spot(
-        page.number(planfile::read_number(a)),
+        d.page.number(planfile::read_number(a)),
         planfile::read_place(a),
     );
-    Desk {
-        page: put_state(next, state),
-        state: state,
-    }
+    d.stated(next, o.state)
 }
 
 // The order, or the place of a refusal.
@@ -114,23 +122,25 @@ fn put_order(page: Page, a: Answer) -> Page {
 fn reply_step(d: Desk, tick: usize, ended: usize) -> Desk {
     let r = call::step(d.state, tick, ended);
     let a = r.answer;
-    let state = r.state;
     let next = put_order(d.page.number(machine::answer::answer_number(a)), a);
-    Desk {
-        page: put_state(next, state),
-        state: state,
-    }
+    d.stated(next, r.state)
 }
 
 fn reply_poke(d: Desk, f: usize, i: usize, v: usize) -> Desk {
-    let state = poked(d.state, f, i, v);
-    Desk {
-        page: put_state(d.page.put(b"0"), state),
-        state: state,
-    }
+    d.stated(d.page.put(b"0"), poked(d.state, f, i, v))
 }
 
-// A request that leaves the state as it is.
+// A request of the log, on the bytes that the store has for it.
+fn reply_log(mut d: Desk, r: LogRequest, bytes: &[u8], store: &mut [u8]) -> Desk {
+    let size = logreplies::size_for(r, d.size);
+    if store.len() < size {
+        return d;
+    }
+    d.size = size;
+    d.answered(logreplies::reply(d.page, r, bytes, &mut store[0..size]))
+}
+
+// A request that leaves the state and the store as they are.
 fn reply_bytes(page: Page, r: Request, list: &[u8], lo: &[u8], hi: &[u8]) -> Page {
     match r {
         Request::List => reply_list(page, list),
@@ -143,18 +153,15 @@ fn reply_bytes(page: Page, r: Request, list: &[u8], lo: &[u8], hi: &[u8]) -> Pag
 }
 
 // The answer to a request whose bytes are decoded.
-pub(crate) fn reply(d: Desk, r: Request, room: &[u8], b: Decoded) -> Desk {
+pub(crate) fn reply(d: Desk, r: Request, room: &[u8], b: Decoded, store: &mut [u8]) -> Desk {
     let list = part(room, 0, b.list);
     let lo = part(room, b.list, b.lo);
     let hi = part(room, b.lo, b.hi);
-    let state = d.state;
     match r {
-        Request::Open(first) => reply_open(d.page, list, first),
+        Request::Open(first) => reply_open(d, list, first),
         Request::Step(tick, ended) => reply_step(d, tick, ended),
         Request::Poke(f, i, v) => reply_poke(d, f, i, v),
-        _ => Desk {
-            page: reply_bytes(d.page, r, list, lo, hi).end(),
-            state: state,
-        },
+        Request::Log(l) => reply_log(d, l, list, store),
+        _ => d.answered(reply_bytes(d.page, r, list, lo, hi)),
     }
 }

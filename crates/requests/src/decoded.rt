@@ -9,7 +9,7 @@ const MOST_BYTES: usize = 65536;
 // Stands for an end or a number that is not there. Nothing is decoded behind such an end.
 pub(crate) const NONE: usize = usize::MAX;
 
-// Where the bytes of fields 1 to 3 end, each behind those before it: a list or a plan, and two tables.
+// Where a request's first bytes end, and then those of fields 2 and 3, each behind those before it: a list, a plan or what is put; and two tables.
 pub struct Decoded {
     pub list: usize,
     pub lo: usize,
@@ -37,9 +37,17 @@ fn end_of(room: &mut [u8], at: usize, s: &[u8]) -> usize {
     unhexed(room, at, s)
 }
 
+// The field of a request's first bytes: those of a put stand behind their place.
+fn first_bytes(line: &[u8]) -> usize {
+    if same(field(line, 0), b"put") {
+        return 2;
+    }
+    1
+}
+
 // A request has its bytes in its first fields: so these are decoded whatever they are for.
 pub fn decode(line: &[u8], room: &mut [u8]) -> Decoded {
-    let list = end_of(room, 0, field(line, 1));
+    let list = end_of(room, 0, field(line, first_bytes(line)));
     let lo = end_of(room, list, field(line, 2));
     let hi = end_of(room, lo, field(line, 3));
     Decoded {

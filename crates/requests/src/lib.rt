@@ -1,12 +1,13 @@
-// Requests, a line each: what a line asks, with its bytes decoded; and a field of the dispatcher's state, set to any value.
+// Requests, a line each: what a line asks, with its bytes decoded.
 mod decoded;
 mod fields;
-mod poke;
+mod log;
 mod request;
 
 pub use decoded::Decoded;
 pub use decoded::decode;
-pub use poke::poked;
+pub use log::LogRequest;
+pub use log::MOST_STORE;
 pub use request::MOST_LINE;
 pub use request::MOST_ROOM;
 pub use request::Request;

@@ -4,8 +4,10 @@ use crate::decoded::NONE;
 use crate::fields::count;
 use crate::fields::field;
 use crate::fields::place_in;
-use crate::poke::field_of;
-use crate::poke::kind_of;
+use crate::log::LogRequest;
+use crate::log::log_request_of;
+use poke::NAMES;
+use poke::kind_of;
 use text::Decimal;
 
 // A longer line is not kept, and cannot be read.
@@ -26,11 +28,12 @@ pub enum Request {
     Open(usize),
     Step(usize, usize),
     Poke(usize, usize, usize),
+    Log(LogRequest),
     Unreadable,
 }
 
 // The number in field k.
-fn number(line: &[u8], k: usize, most: usize) -> usize {
+pub(crate) fn number(line: &[u8], k: usize, most: usize) -> usize {
     match text::number(field(line, k), most) {
         Decimal::Is(n) => n,
         Decimal::Not => NONE,
@@ -38,7 +41,7 @@ fn number(line: &[u8], k: usize, most: usize) -> usize {
 }
 
 // The request, where the line is not too long and has so many fields, and an end and a number are there.
-fn asked(r: Request, line: &[u8], fields: usize, end: usize, n: usize) -> Request {
+pub(crate) fn asked(r: Request, line: &[u8], fields: usize, end: usize, n: usize) -> Request {
     if MOST_LINE < line.len() {
         return Request::Unreadable;
     }
@@ -76,7 +79,7 @@ fn read_step(line: &[u8]) -> Request {
 }
 
 fn read_poke(line: &[u8]) -> Request {
-    let f = field_of(field(line, 1));
+    let f = place_in(&NAMES, field(line, 1));
     let kind = kind_of(f);
     let i = number(line, 2, MOST_NUMBER);
     let v = number(line, 3, kind.most);
@@ -97,6 +100,6 @@ pub fn request_of(line: &[u8], d: Decoded) -> Request {
         5 => read_open(line, d),
         6 => read_step(line),
         7 => read_poke(line),
-        _ => Request::Unreadable,
+        _ => log_request_of(line, d),
     }
 }

@@ -15,6 +15,9 @@ slice-aggregate-take-all c = sym (length-replicate {A = ℕ} _ 0)
 slice-aggregate-take-all-2 : tie.Need-slice-aggregate-take-all-2
 slice-aggregate-take-all-2 c = sym (length-replicate {A = ℕ} _ 0)
 
+slice-aggregate-take-all-3 : tie.Need-slice-aggregate-take-all-3
+slice-aggregate-take-all-3 c = sym (length-replicate {A = ℕ} _ 0)
+
 take-all-requires : tie.Need-take-all-requires
 take-all-requires c κs = tt
 
@@ -28,5 +31,6 @@ answer-all-spec =
     fresh-requires
     slice-aggregate-take-all
     slice-aggregate-take-all-2
+    slice-aggregate-take-all-3
     take-all-requires
     returns)

@@ -7,7 +7,7 @@ use verdict::Spot;
 use verdict::Verdict;
 
 // A name and its bytes, `-` for none.
-pub(crate) fn put_bytes(page: Page, name: &[u8], s: &[u8]) -> Page {
+pub fn put_bytes(page: Page, name: &[u8], s: &[u8]) -> Page {
     if s.len() == 0 {
         return page.put(name).put(b"-");
     }
@@ -23,7 +23,7 @@ fn put_job(page: Page, j: usize) -> Page {
 }
 
 // The job or the edge of a refused list.
-pub(crate) fn put_place(page: Page, p: Place) -> Page {
+pub fn put_place(page: Page, p: Place) -> Page {
     match p {
         Place::Nowhere => page,
         Place::AtJob(j) => put_job(page, j),
@@ -52,7 +52,7 @@ fn put_fault(page: Page, f: Fault) -> Page {
 }
 
 // The place of what the check, a plan or a write is refused for.
-pub(crate) fn put_spot(page: Page, s: Spot) -> Page {
+pub fn put_spot(page: Page, s: Spot) -> Page {
     match s {
         Spot::InList(p) => put_place(page, p),
         Spot::AtSlot(t) => put_slot(page, t),
@@ -61,7 +61,7 @@ pub(crate) fn put_spot(page: Page, s: Spot) -> Page {
 }
 
 // The check's answer: its number, and its place.
-pub(crate) fn put_verdict(page: Page, v: Verdict) -> Page {
+pub fn put_verdict(page: Page, v: Verdict) -> Page {
     let next = page.number(verdict::answer_number(v));
     match v {
         Verdict::Yes => next,
@@ -70,7 +70,7 @@ pub(crate) fn put_verdict(page: Page, v: Verdict) -> Page {
 }
 
 // The place of what a build is refused for.
-pub(crate) fn put_build_place(page: Page, p: BuildPlace) -> Page {
+pub fn put_build_place(page: Page, p: BuildPlace) -> Page {
     match p {
         BuildPlace::InList(p) => put_place(page, p),
         BuildPlace::AtJob(t, j) => put_slot_job(page, t, j),

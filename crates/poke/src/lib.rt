@@ -1,5 +1,4 @@
 // One field of the dispatcher's state: set to any value that it can hold.
-use crate::fields::place_in;
 use dispatch::state::State;
 use joblist::MOST_EDGES;
 use joblist::MOST_JOBS;
@@ -7,7 +6,10 @@ use joblist::MOST_SLOTS;
 use parts::plan;
 use parts::plan::Plan;
 
-// The fields, numbered in the order of their names below: words, bytes, then what has a place for each job, edge and slot.
+// The fields' names, and the fields, numbered in this order: words, bytes, then what has a place for each job, edge and slot.
+pub const NAMES: [u8; 95] =
+    *b"slot tick l n m ordered high halted units arrival deadline clo chi done cut level from to lo hi";
+
 const SLOT: usize = 0;
 
 const TICK: usize = 1;
@@ -49,17 +51,9 @@ const LO: usize = 18;
 const HI: usize = 19;
 
 // How many places a field has, and the largest value of one.
-pub(crate) struct Kind {
+pub struct Kind {
     pub places: usize,
     pub most: usize,
-}
-
-// Which field has a name.
-pub(crate) fn field_of(name: &[u8]) -> usize {
-    place_in(
-        b"slot tick l n m ordered high halted units arrival deadline clo chi done cut level from to lo hi",
-        name,
-    )
 }
 
 fn words(places: usize) -> Kind {
@@ -77,7 +71,7 @@ fn bytes(places: usize) -> Kind {
 }
 
 // What is no field has no place.
-pub(crate) fn kind_of(f: usize) -> Kind {
+pub fn kind_of(f: usize) -> Kind {
     match f {
         SLOT..=EDGES => words(1),
         ORDERED..=HALTED => bytes(1),
