@@ -1,5 +1,5 @@
-//! The second program: document 01 once more, in plain code that shares nothing with the proved
-//! code, to compare that with.
+//! The second program: document 01 and request 2026-01 once more, in plain code that shares nothing
+//! with the proved code, to compare that with.
 
 mod ask;
 mod build;
