@@ -2,7 +2,7 @@
 use files::send;
 use page::Page;
 
-const HELP: [u8; 1579] = *b"desk: plans for jobs of two levels, in slots
+const HELP: [u8; 1660] = *b"desk: plans for jobs of two levels, in slots
 
   desk demo                       the whole story on a small list
   desk build JOBS PLAN            build the plan of a text job list, or say why not
@@ -15,6 +15,7 @@ const HELP: [u8; 1579] = *b"desk: plans for jobs of two levels, in slots
   desk list PLAN                  the plan's job list, as text
   desk tables PLAN [JOBS]         the plan's tables, as text
   desk c PLAN NAME                the plan as an array in C, for the hut
+  desk log STORE new BYTES|append PLAN|newest PLAN|list   plans kept in one file
   desk words                      every refusal, and what to do about it
 
 JOBS has a line a job: NAME arrival deadline low|high CLO [CHI], in slots. A job may

@@ -29,6 +29,13 @@ fn run(b: &[u8], c: &[u8], d: &[u8], e: &[u8]) {
     commands::run(b, c, false, d);
 }
 
+// desk log STORE WORD ..
+fn log(b: &[u8], c: &[u8], d: &[u8]) {
+    if !logs::command(b, c, d) {
+        help::say();
+    }
+}
+
 // The command that is given three.
 fn on_texts(a: &[u8], b: &[u8], c: &[u8], d: &[u8]) {
     if is(a, b"write") {
@@ -50,6 +57,10 @@ fn on_files(a: &[u8], b: &[u8], c: &[u8], d: &[u8], e: &[u8]) {
     }
     if is(a, b"c") {
         commands::c(b, c);
+        return;
+    }
+    if is(a, b"log") {
+        log(b, c, d);
         return;
     }
     if d.len() == 0 {

@@ -2,6 +2,7 @@
 use page::Page;
 use page::plus;
 use text::part;
+use text::same;
 
 // The bytes that are read at most: one more than a file may have.
 pub const MOST: usize = 131072;
@@ -64,7 +65,8 @@ fn read_all(fd: i32, buf: &mut [u8]) -> usize {
     have
 }
 
-fn read_open(fd: i32, path: &[u8]) -> File {
+// Reads what is open, and leaves it open.
+pub fn read_open(fd: i32, path: &[u8]) -> File {
     let mut bytes = [0u8; MOST];
     let size = read_all(fd, &mut bytes);
     if MOST < size {
@@ -101,6 +103,18 @@ pub fn read(path: &[u8]) -> File {
     file
 }
 
+// Whether a file is there that has just these bytes.
+pub fn has(path: &[u8], bytes: &[u8]) -> bool {
+    let fd = os::open_read(path);
+    if fd < 0 {
+        return false;
+    }
+    let mut held = [0u8; MOST];
+    let size = read_all(fd, &mut held);
+    libc::close(fd);
+    same(part(&held, 0, size), bytes)
+}
+
 // Writes all, and has it on the disk.
 fn put_all(fd: i32, bytes: &[u8]) -> bool {
     if !io::write_all(fd, bytes) {
@@ -109,20 +123,28 @@ fn put_all(fd: i32, bytes: &[u8]) -> bool {
     libc::fsync(fd) == 0
 }
 
-// Writes the side file and gives it the path's name.
-fn write_by(side: &[u8], path: &[u8], bytes: &[u8]) -> bool {
-    let fd = os::create(side);
+// Makes a file of these bytes that is not there yet, whole or not at all.
+fn fill(path: &[u8], bytes: &[u8]) -> bool {
+    let fd = os::create(path);
     if fd < 0 {
-        os::fail(side);
+        os::fail(path);
         return false;
     }
     if !put_all(fd, bytes) {
-        os::fail(side);
+        os::fail(path);
         libc::close(fd);
-        os::unlink(side);
+        os::unlink(path);
         return false;
     }
     libc::close(fd);
+    true
+}
+
+// Writes the side file and gives it the path's name.
+fn write_by(side: &[u8], path: &[u8], bytes: &[u8]) -> bool {
+    if !fill(side, bytes) {
+        return false;
+    }
     if os::rename(side, path) != 0 {
         os::fail(path);
         os::unlink(side);
@@ -137,6 +159,11 @@ fn side_of(name: &mut [u8], path: &[u8]) -> usize {
     text::put(name, at, b".new")
 }
 
+// Says that a file was not written, after it was said why.
+pub fn unwritten(path: &[u8]) {
+    complain(Page::errors().put(path).line(b" was not written"));
+}
+
 // Writes a file, whole or not at all: first beside it, as PATH.new, and then by a new name.
 pub fn write(path: &[u8], bytes: &[u8]) -> bool {
     let mut name = [0u8; PATH_ROOM];
@@ -144,6 +171,15 @@ pub fn write(path: &[u8], bytes: &[u8]) -> bool {
     if write_by(part(&name, 0, k), path, bytes) {
         return true;
     }
-    complain(Page::errors().put(path).line(b" was not written"));
+    unwritten(path);
+    false
+}
+
+// Writes a file that is not there yet: one that is there stays as it is.
+pub fn create(path: &[u8], bytes: &[u8]) -> bool {
+    if fill(path, bytes) {
+        return true;
+    }
+    unwritten(path);
     false
 }

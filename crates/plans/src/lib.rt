@@ -182,7 +182,7 @@ pub fn put_check(page: Page, path: &[u8], plan: &[u8], names: Names) -> Page {
 
 // Where to see the fault happen: of a plan, or of a list with its tables.
 fn put_why(page: Page, path: &[u8], tables: &[u8]) -> Page {
-    let mut to = page.blank(4).left(b"why", 12).put(b"desk why ").put(path);
+    let mut to = words::label(page, b"why").put(b"desk why ").put(path);
     if tables.len() != 0 {
         to = to.put(b" ").put(tables);
     }

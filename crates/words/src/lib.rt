@@ -7,5 +7,6 @@ pub use number::meaning;
 pub use number::table;
 pub use told::No;
 pub use told::at_spot;
+pub use told::label;
 pub use told::of_build;
 pub use told::tell;

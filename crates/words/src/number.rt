@@ -7,7 +7,7 @@ use text::find;
 use text::part;
 
 // A line for each number, and under it a line with what to do. The texts begin in the columns below.
-const TABLE: [u8; 3644] = *b"   1  the list does not have 1 to 64 jobs
+const TABLE: [u8; 3966] = *b"   1  the list does not have 1 to 64 jobs
       do: write one line for each job, 1 to 64 in all
    2  the list has more than 256 edges
       do: leave out edges that others give: a before b, b before c need no a before c
@@ -69,6 +69,12 @@ const TABLE: [u8; 3644] = *b"   1  the list does not have 1 to 64 jobs
       do: use a job's number, or 255 for idle
   46  the output is shorter than the plan
       do: lend 3,216 bytes: no plan has more
+  50  the plan does not fit behind the last whole plan of the store
+      do: begin another store: desk log STORE new BYTES
+  51  the store holds no whole plan
+      do: append a plan, or see whether this is the store that you mean
+  52  the store has more than 65,536 bytes
+      do: use a store of 65,536 bytes or fewer
 ";
 
 // More lines than the table has.

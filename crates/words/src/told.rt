@@ -123,8 +123,8 @@ pub fn of_build(w: BuildWhy) -> No {
     at_place(merge::why_number(w), merge::why_place(w))
 }
 
-// What a line is about.
-fn label(page: Page, s: &[u8]) -> Page {
+// What a line under an answer is about.
+pub fn label(page: Page, s: &[u8]) -> Page {
     page.blank(4).left(s, 12)
 }
 
