@@ -1,9 +1,10 @@
 /* The slot desk for firmware: build, check, why, read, write, open and step, over bytes that the caller lends
- * and one state that the caller keeps.
+ * and one state that the caller keeps; and a log of plans in one store, which a cut of power does not harm.
  *
  * Link libhut.a: `rt staticlib hut` writes it for x86-64, `tools/hut-for` for 64-bit Arm and RISC-V as well.
  * Every promise below is the contract of a proved function: crates/hut/src/lib.rt has it, and
- * crates/hut/specs/Calls.antt says what each answer is. What is not proved is the compiler's back end, and
+ * crates/hut/specs/Calls.antt and Log.antt say what each answer is. What a cut leaves of an append is a theorem
+ * over these contracts: crates/planlog/specs/Cut.antt. What is not proved is the compiler's back end, and
  * that the caller keeps to "What the caller owes".
  *
  * No call allocates, keeps anything between calls, reads a clock or writes a file. Each call ends, and
@@ -12,8 +13,8 @@
  *
  * What the caller owes:
  * - a pointer is never NULL, also where its length is 0, and that many bytes behind it may be read;
- * - the bytes of `out` and of `needs` may be written, and none of them is also lent as another argument of
- *   that call;
+ * - the bytes of `out`, of `needs` and of the store that hut_log_append is given may be written, and none of
+ *   them is also lent as another argument of that call: a plan to append does not lie in the store;
  * - the state that hut_step is given may be read and written, all HUT_STATE_BYTES of it, and stands at an
  *   address that is a multiple of 2, as a struct hut_state does;
  * - nobody else reads or writes lent bytes, or the state, while the call runs.
@@ -41,6 +42,12 @@ extern "C" {
 #define HUT_LIST_BYTES(n, m) (8 + 10 * (size_t)(n) + 2 * (size_t)(m))
 #define HUT_MOST_PLAN_BYTES 3216
 
+/* The most bytes of a log's store. */
+#define HUT_MOST_STORE_BYTES 65536
+
+/* How many bytes an append writes that puts a plan at `at`: each byte from there to the store's end, and the plan's. */
+#define HUT_LOG_WRITES(store_bytes, at, plan_bytes) ((size_t)(store_bytes) - (size_t)(at) + (size_t)(plan_bytes))
+
 /* The stack to leave for each call. Not proved: tests/hut/stack.c measures each call on a list of the most jobs and
  * slots, on each processor, less what a thread takes that does nothing. A step's does not grow with the sizes. */
 #define HUT_STACK_BUILD 24576
@@ -50,6 +57,11 @@ extern "C" {
 #define HUT_STACK_WRITE 12288
 #define HUT_STACK_OPEN 20480
 #define HUT_STACK_STEP 512
+#define HUT_STACK_LOG_APPEND 12288
+#define HUT_STACK_LOG_NEWEST 12288
+#define HUT_STACK_LOG_PREVIOUS 12288
+#define HUT_STACK_LOG_ROOM 12288
+#define HUT_STACK_LOG_WRITE 512
 
 /* Where an answer of no stands. Each field is HUT_ABSENT where the number below does not name it. */
 struct hut_place {
@@ -99,6 +111,9 @@ struct hut_place {
  *  44   a zero field is not zero
  *  45   a table byte is neither 255 nor a job                    slot
  *  46   the output is shorter than the plan
+ *  50   the plan does not fit behind the log's last whole plan
+ *  51   no plan: the log is empty, or none ends at the place asked for
+ *  52   a store of more than 65,536 bytes
  *
  * 20 to 24 say how far the merge method came. A builder's no is not a claim that no pair exists.
  */
@@ -168,6 +183,60 @@ struct hut_running hut_open(const uint8_t *plan, size_t plan_bytes, uint16_t fir
  * Ticks count modulo 65536, so tick 0 follows tick 65535. 31 and 35 halt the state and change nothing else
  * in it; the other refusals change nothing at all. */
 struct hut_answer hut_step(struct hut_state *state, uint16_t tick, uint8_t ended);
+
+/* The log: plans back to back in one store, the oldest at its first byte. It ends where no plan begins that hut_read
+ * accepts, with as many bytes as its own counts give. What lies behind that end does not matter, so any bytes are a
+ * log: a store of zeros, or of a new device's 255s, is an empty one.
+ *
+ * Every call that is given a store says 52 first of all where that is too large, and a refusal never changes a byte.
+ * On 0 `at` is where the plan begins in the store, and `bytes` its size; on any other number both are HUT_ABSENT. */
+struct hut_log_answer {
+    struct hut_answer answer;
+    size_t at;
+    size_t bytes;
+};
+
+/* A byte to write, and its place in the store. */
+struct hut_log_byte {
+    size_t place;
+    size_t byte;
+};
+
+/* Appends a plan right behind the last whole one. 0; or the first that holds of 52, hut_read's number and place for
+ * the plan, and 50. On 0 every byte before `at` is as it was, the plan follows, and every byte behind it is 0.
+ * It reads each plan of the log once, and the new one once.
+ *
+ * What it leaves is proved. In what order the bytes get there is proved of the source alone: the store is plain memory
+ * here, where the compiler may take another order (a memset goes forwards), and caches another again. So this call is
+ * for a store that is lost or kept as a whole when power is: one in RAM, or a copy that goes into its device in one
+ * piece. For one that keeps each byte as it is written, ask hut_log_room and make the writes with hut_log_write. */
+struct hut_log_answer hut_log_append(uint8_t *store, size_t store_bytes, const uint8_t *plan, size_t plan_bytes);
+
+/* What hut_log_append would answer, place for place. It only reads; the plan may lie in the store. */
+struct hut_log_answer hut_log_room(const uint8_t *store, size_t store_bytes, const uint8_t *plan, size_t plan_bytes);
+
+/* Write k of the append for which hut_log_room gave `at`: `byte` goes to `place`, whatever stands there. They are
+ * HUT_LOG_WRITES(store_bytes, at, plan_bytes), from k = 0 on: zeros from the store's last byte back to `at`, then the
+ * plan forwards. Past the last, and where a plan of these bytes does not fit at `at`, `place` is store_bytes: no write.
+ *
+ * For FRAM, EEPROM, or flash whose driver can put any byte over any other. Make the writes in this order, each
+ * in the device before the next begins. Then power may be lost after any of them:
+ * - before the last one, every byte before `at` is as it was; hut_log_newest and the list that hut_log_previous makes
+ *   are as they were, and so is hut_log_room's answer to any plan; and whatever is appended then, the store is the
+ *   one that it would be without the cut;
+ * - from the last one on, the new plan is the newest, all its bytes are present, and the store is the one that
+ *   hut_log_append leaves.
+ * A byte that power leaves half written is the device's to rule out. The plan does not lie in the store from `at`
+ * on: the zeros would go over it. */
+struct hut_log_byte hut_log_write(size_t store_bytes, size_t at, const uint8_t *plan, size_t plan_bytes, size_t k);
+
+/* The newest whole plan of the log: 0, or 52, or 51 where the log is empty. It reads each plan of the log once. */
+struct hut_log_answer hut_log_newest(const uint8_t *store, size_t store_bytes);
+
+/* The plan that ends right before `end`: the distance in its trailer leads back to its start, and hut_read accepts
+ * it. 0, or 52, or 51 where there is none. Asked at the newest plan's end, at + bytes, and then at each `at` that it
+ * gives, it lists the log's plans newest first, and 51 says that there are no more. It reads one plan. */
+struct hut_log_answer hut_log_previous(const uint8_t *store, size_t store_bytes, size_t end);
 
 #ifdef __cplusplus
 }

@@ -1,8 +1,7 @@
 /* The hut's library, worked through: list A of the paper is built, checked, asked why, read, written, opened and run.
  * Each answer is compared with the paper's. The last line counts. */
-#include "hut.h"
+#include "expect.h"
 
-#include <stdio.h>
 #include <string.h>
 
 /* What the proved side has: nine numbers of 8 bytes in an answer; in a state three 16-bit counts, five numbers
@@ -15,67 +14,6 @@ _Static_assert(sizeof(struct hut_state) == 3 * 2 + 5 * 64 * 2 + 2 * 256 + 2 * 10
 _Static_assert(sizeof(struct hut_state) == HUT_STATE_BYTES, "a state has its bytes and no more");
 _Static_assert(offsetof(struct hut_running, state) == sizeof(struct hut_answer), "the state follows the answer");
 _Static_assert(sizeof(struct hut_running) == sizeof(struct hut_answer) + HUT_STATE_BYTES + sizeof(uint16_t), "what opening hands back");
-
-static int passed, failed;
-
-static void expect(const char *what, int good)
-{
-    if (good) {
-        passed++;
-    } else {
-        failed++;
-        printf("FAILED: %s\n", what);
-    }
-}
-
-/* An answer's number and whole place. */
-static int is(struct hut_answer a, size_t number, size_t fault, size_t slot, size_t job, size_t pred, size_t switched, size_t edge)
-{
-    return a.number == number && a.place.fault == fault && a.place.slot == slot && a.place.job == job
-        && a.place.pred == pred && a.place.switched == switched && a.place.edge == edge;
-}
-
-#define NO HUT_ABSENT
-
-/* An answer with no place. */
-static int bare(struct hut_answer a, size_t number)
-{
-    return is(a, number, NO, NO, NO, NO, NO, NO);
-}
-
-/* An order, and nothing else. */
-static int orders(struct hut_answer a, size_t job)
-{
-    return bare(a, 0) && a.order == job && a.length == NO;
-}
-
-static int all(const void *bytes, size_t from, size_t to, uint8_t value)
-{
-    const uint8_t *b = bytes;
-    for (size_t i = from; i < to; i++) {
-        if (b[i] != value) {
-            return 0;
-        }
-    }
-    return 1;
-}
-
-/* List A: job 0 (0, 5, high, 1, 3) and job 1 (0, 3, low, 2, 2). */
-static const uint8_t list_a[28] = {
-    0x02, 0x00, 0x00, 0x00, 0x05, 0x00, 0x00, 0x00,
-    0x00, 0x00, 0x05, 0x00, 0x01, 0x00, 0x03, 0x00, 0x01, 0x00,
-    0x00, 0x00, 0x03, 0x00, 0x02, 0x00, 0x02, 0x00, 0x00, 0x00,
-};
-
-/* P1: its whole plan. */
-static const uint8_t plan_a[46] = {
-    0x02, 0x00, 0x00, 0x00, 0x05, 0x00, 0x00, 0x00,
-    0x00, 0x00, 0x05, 0x00, 0x01, 0x00, 0x03, 0x00, 0x01, 0x00,
-    0x00, 0x00, 0x03, 0x00, 0x02, 0x00, 0x02, 0x00, 0x00, 0x00,
-    0x01, 0x01, 0x00, 0xFF, 0xFF,
-    0x01, 0x01, 0x00, 0x00, 0x00,
-    0x26, 0x00, 0x00, 0x00, 0x54, 0x54, 0x50, 0x31,
-};
 
 static void building(void)
 {
@@ -309,6 +247,5 @@ int main(void)
     reading_and_writing();
     running();
     the_state();
-    printf("%d passed, %d failed\n", passed, failed);
-    return failed != 0;
+    return counted();
 }

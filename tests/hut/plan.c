@@ -1,23 +1,9 @@
 /* A plan as `desk c` writes it: `night` has the bytes of the file PLAN, hut_read and hut_open take them, and the first
  * order is the plan's. The last line counts. */
-#include "hut.h"
-
-#include <stdio.h>
+#include "expect.h"
 
 extern const uint8_t night[];
 extern const size_t night_bytes;
-
-static int passed, failed;
-
-static void expect(const char *what, int good)
-{
-    if (good) {
-        passed++;
-    } else {
-        failed++;
-        printf("FAILED: %s\n", what);
-    }
-}
 
 int main(void)
 {
@@ -35,6 +21,5 @@ int main(void)
     expect("opened", o.answer.number == 0);
     struct hut_answer a = hut_step(&o.state, 7, 0);
     expect("the first order", a.number == 0 && a.order == 1);
-    printf("%d passed, %d failed\n", passed, failed);
-    return failed != 0;
+    return counted();
 }

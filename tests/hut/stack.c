@@ -12,6 +12,7 @@
 enum { ROOM = 1 << 20, FILL = 0xA5, JOBS = 64, SLOTS = 1024, MOST_EDGES = 256 };
 
 static uint8_t list[HUT_LIST_BYTES(JOBS, MOST_EDGES)], plan[HUT_MOST_PLAN_BYTES], out[HUT_MOST_PLAN_BYTES];
+static uint8_t store[HUT_MOST_STORE_BYTES];
 static uint16_t needs[HUT_MOST_JOBS];
 static size_t list_bytes, plan_bytes;
 static struct hut_running running;
@@ -43,6 +44,19 @@ static struct hut_answer open_plan(void)
 }
 static struct hut_answer step(void) { return hut_step(&running.state, 0, 0); }
 
+/* The store holds the plan already, so that the walk reads it too. */
+static struct hut_answer log_append(void) { return hut_log_append(store, sizeof store, plan, plan_bytes).answer; }
+static struct hut_answer log_newest(void) { return hut_log_newest(store, sizeof store).answer; }
+static struct hut_answer log_previous(void) { return hut_log_previous(store, sizeof store, plan_bytes).answer; }
+static struct hut_answer log_room(void) { return hut_log_room(store, sizeof store, plan, plan_bytes).answer; }
+/* The first write is that of the store's last byte: any other place counts as a no. */
+static struct hut_answer log_write(void)
+{
+    const struct hut_log_byte w = hut_log_write(sizeof store, 0, plan, plan_bytes, 0);
+    const struct hut_answer a = {.number = w.place != sizeof store - 1};
+    return a;
+}
+
 static struct hut_answer nothing(void)
 {
     const struct hut_answer yes = {.number = 0};
@@ -62,6 +76,11 @@ static const struct {
     {"hut_write", write_plan, HUT_STACK_WRITE},
     {"hut_open", open_plan, HUT_STACK_OPEN},
     {"hut_step", step, HUT_STACK_STEP},
+    {"hut_log_append", log_append, HUT_STACK_LOG_APPEND},
+    {"hut_log_newest", log_newest, HUT_STACK_LOG_NEWEST},
+    {"hut_log_previous", log_previous, HUT_STACK_LOG_PREVIOUS},
+    {"hut_log_room", log_room, HUT_STACK_LOG_ROOM},
+    {"hut_log_write", log_write, HUT_STACK_LOG_WRITE},
 };
 
 /* 64 high jobs with all the time there is, each before the next four: 246 edges. */
@@ -118,6 +137,7 @@ int main(void)
     int passed = 0, failed = 0;
     put_list();
     plan_bytes = hut_build(list, list_bytes, plan, sizeof plan).length;
+    hut_log_append(store, sizeof store, plan, plan_bytes);
     const size_t own = taken(0);
     for (size_t k = 1; k < sizeof calls / sizeof *calls; k++) {
         const size_t all = taken(k), bytes = all > own ? all - own : 0;

@@ -30,7 +30,7 @@ fn place_at(slot: usize, job: usize, pred: usize, switched: usize) -> Place
     }
 }
 
-fn no_place() -> Place
+pub(crate) fn no_place() -> Place
     ensures { λ r. ⌜ r ≡ nowhere ⌝ }
 {
     place_at(
@@ -83,7 +83,7 @@ fn fault_place(f: Fault) -> Place
 }
 
 // A place of the check, of reading and of writing.
-fn spot_place(s: Spot) -> Place
+pub(crate) fn spot_place(s: Spot) -> Place
     ensures { λ r. ⌜ r ≡ spotPlace s ⌝ }
 {
     match s {
@@ -130,7 +130,7 @@ fn build_place(p: BuildPlace) -> Place
 }
 
 // A number with its place.
-fn says(number: usize, place: Place) -> Answer
+pub(crate) fn says(number: usize, place: Place) -> Answer
     ensures { λ r. ⌜ r ≡ says number place ⌝ }
 {
     Answer {

@@ -4,6 +4,9 @@ ghost use lib.ListN.{length};
 ghost use Rattle.basics.specs.Limits.{firstEdition};
 ghost use Rattle.verdict.specs.Answer.{checkOf};
 ghost use Rattle.planfile.specs.Answer.{readOf, writeOf, outAfter};
+ghost use Rattle.logwalk.specs.Answer.{newestOf, previousOf};
+ghost use Rattle.planlog.specs.Answer.{appendOf, appendedStore};
+ghost use Rattle.planlog.specs.Writes.{nthWrite};
 ghost use Rattle.merge.specs.Build.{buildOf, outAfter as builtInto};
 ghost use Rattle.parts.specs.Marks.{isSet};
 ghost use Rattle.parts.specs.Plan.{planWith};
@@ -13,6 +16,7 @@ ghost use Rattle.dispatch.specs.State.{stepOf};
 ghost use Rattle.dispatch.specs.Open.{openOf};
 ghost use Rattle.hut.specs.Calls.{checkAnswer, readResult, writeAnswer, buildAnswer, stepAnswer, moved, answered, opened};
 ghost use Rattle.hut.specs.Why.{whyAnswer, whyNeeds};
+ghost use Rattle.hut.specs.Log.{appendAnswer, foundAnswer, logByte};
 use dispatch::state::State;
 use joblist::MOST_JOBS;
 use machine::head::Head;
@@ -23,6 +27,7 @@ use parts::plan::ENTRIES;
 use parts::plan::JOBS;
 
 mod answers;
+mod log;
 
 // Where; what a place has not got is Answer::ABSENT.
 #[repr(C)]
@@ -66,6 +71,21 @@ pub struct Running {
 pub struct Moved {
     pub answer: Answer,
     pub head: Head,
+}
+
+// What the log answers: on yes where the plan begins in the store, and its bytes.
+#[repr(C)]
+pub struct LogAnswer {
+    pub answer: Answer,
+    pub at: usize,
+    pub bytes: usize,
+}
+
+// A byte to write into a store, and its place there.
+#[repr(C)]
+pub struct LogByte {
+    pub place: usize,
+    pub byte: usize,
 }
 
 impl Answer {
@@ -189,4 +209,45 @@ pub extern "C" fn hut_why(list: &[u8], lo: &[u8], hi: &[u8], needs: &mut [u16; M
     let each = w.needs;
     *needs = each;
     answers::check_answer(v)
+}
+
+// Appends a plan to the log in a store: it is zeroed from its last byte back to the end of the last whole plan, and the plan written forwards. No byte changes where the answer is no.
+#[no_mangle]
+pub extern "C" fn hut_log_append(store: &mut [u8], plan: &[u8]) -> LogAnswer
+    ensures { λ r. ⌜ (r ≡ appendAnswer (appendOf firstEdition (now (store .entry)) (now (plan .entry))) (length (now (plan .entry))))
+        × (now (store .exit) ≡ appendedStore firstEdition (now (store .entry)) (now (plan .entry))) ⌝ }
+{
+    log::append_answer(planlog::append(store, plan), plan.len())
+}
+
+// The newest whole plan of a store.
+#[no_mangle]
+pub extern "C" fn hut_log_newest(store: &[u8]) -> LogAnswer
+    ensures { λ r. ⌜ r ≡ foundAnswer (newestOf firstEdition (now (store .entry))) ⌝ }
+{
+    log::found_answer(logwalk::newest(store))
+}
+
+// The plan that ends at `end`: from the newest one's end, and then from each start, all of them newest first.
+#[no_mangle]
+pub extern "C" fn hut_log_previous(store: &[u8], end: usize) -> LogAnswer
+    ensures { λ r. ⌜ r ≡ foundAnswer (previousOf firstEdition (now (store .entry)) end) ⌝ }
+{
+    log::found_answer(logwalk::previous(store, end))
+}
+
+// What `hut_log_append` would answer. It only reads.
+#[no_mangle]
+pub extern "C" fn hut_log_room(store: &[u8], plan: &[u8]) -> LogAnswer
+    ensures { λ r. ⌜ r ≡ appendAnswer (appendOf firstEdition (now (store .entry)) (now (plan .entry))) (length (now (plan .entry))) ⌝ }
+{
+    log::append_answer(planlog::room_for(store, plan), plan.len())
+}
+
+// Write k of an append that puts the plan at `at` in a store of so many bytes; a place past the store where there is none.
+#[no_mangle]
+pub extern "C" fn hut_log_write(size: usize, at: usize, plan: &[u8], k: usize) -> LogByte
+    ensures { λ r. ⌜ r ≡ logByte (nthWrite size at (now (plan .entry)) k) ⌝ }
+{
+    log::log_byte(planlog::nth_write(size, at, plan, k))
 }

@@ -1,4 +1,4 @@
-/* Where a program with no C library and no operating system's files begins, for tests/hut/example.c on the bare-metal
+/* Where a program with no C library and no operating system's files begins, for the examples on the bare-metal
  * archives. It is run by an emulator of the processor, which takes two calls: write and exit. */
 #include "stdio.h"
 #include "string.h"

@@ -1,2 +1,2 @@
-/* What tests/hut/example.c takes of C's library, where there is none. */
+/* What the examples of tests/hut take of C's library, where there is none. */
 int printf(const char *format, ...);

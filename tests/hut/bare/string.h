@@ -1,4 +1,4 @@
-/* What tests/hut/example.c takes of C's library, where there is none. */
+/* What the examples of tests/hut take of C's library, where there is none. */
 #include <stddef.h>
 void *memcpy(void *restrict to, const void *restrict from, size_t bytes);
 void *memset(void *to, int value, size_t bytes);

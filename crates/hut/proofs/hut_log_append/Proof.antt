@@ -1,0 +1,21 @@
+-- `hut_log_append` meets its contract: the answer of `append`, as a record, and its store.
+-- Assumes nothing.
+use borrow.Author.Needs.{needs}
+use Rattle.hut.proofs.hut_log_append.Statement.{statement}
+use Rattle.hut.proofs.hut_log_append.Tie as tie
+
+append-requires : tie.Need-append-requires
+append-requires c κs = search needs
+
+append-answer-requires : tie.Need-append-answer-requires
+append-answer-requires c κs = search needs
+
+same-length : tie.Need-same-length
+same-length c = search needs
+
+returns : tie.Need-returns
+returns c = (cc, search needs)
+
+pub hut-log-append-spec : {M : Type 1} → statement M
+hut-log-append-spec =
+    tie.close (tie.spec append-requires append-answer-requires same-length returns)

@@ -1,0 +1,36 @@
+-- `found_answer` meets its contract: the number, and where the plan was found.
+-- Assumes nothing.
+use borrow.Author.Needs.{needs}
+use Rattle.hut.specs.Log.{foundAnswer}
+use Rattle.hut.proofs.log.found_answer.Statement.{statement}
+use Rattle.hut.proofs.log.found_answer.Tie as tie
+
+found-number-requires : tie.Need-found-number-requires
+found-number-requires c κs = search needs
+
+no-place-requires : tie.Need-no-place-requires
+no-place-requires c κs = search needs
+
+says-requires : tie.Need-says-requires
+says-requires c κs = search needs
+
+found-span-requires : tie.Need-found-span-requires
+found-span-requires c κs = search needs
+
+log-answer-requires : tie.Need-log-answer-requires
+log-answer-requires c κs = search needs
+
+returns : tie.Need-returns
+unfolding foundAnswer
+returns c = cc
+
+pub found-answer-spec : {M : Type 1} → statement M
+found-answer-spec =
+    tie.close
+    (tie.spec
+    found-number-requires
+    no-place-requires
+    says-requires
+    found-span-requires
+    log-answer-requires
+    returns)
