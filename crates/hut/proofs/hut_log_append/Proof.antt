@@ -1,6 +1,10 @@
 -- `hut_log_append` meets its contract: the answer of `append`, as a record, and its store.
 -- Assumes nothing.
 use borrow.Author.Needs.{needs}
+use mathlib.Core.Path.{ap, _∙_}
+use lib.ListN.{length}
+use Rattle.planlog.specs.declared.Appended.{Appended}
+use Rattle.hut.specs.Log.{appendAnswer}
 use Rattle.hut.proofs.hut_log_append.Statement.{statement}
 use Rattle.hut.proofs.hut_log_append.Tie as tie
 
@@ -14,7 +18,9 @@ same-length : tie.Need-same-length
 same-length c = search needs
 
 returns : tie.Need-returns
-returns c = (cc, search needs)
+returns c = let plan = c .before .before .before .before .before .before .before .args .plan .now in
+    let e = c .before .before .before .append .ensures in
+    (c .append-answer .ensures ∙ ap (λ (a : Appended). appendAnswer a (length plan)) (e .0), e .1)
 
 pub hut-log-append-spec : {M : Type 1} → statement M
 hut-log-append-spec =

@@ -2,6 +2,7 @@
 -- Assumes nothing.
 use borrow.Author.Needs.{needs}
 use Rattle.hut.specs.Calls.{checkAnswer}
+use Rattle.hut.proofs.Parts.{same-says}
 use Rattle.hut.proofs.answers.check_answer.Statement.{statement}
 use Rattle.hut.proofs.answers.check_answer.Tie as tie
 
@@ -16,7 +17,8 @@ says-requires c κs = search needs
 
 returns : tie.Need-returns
 unfolding checkAnswer
-returns c = cc
+returns c =
+    same-says _ _ _ _ _ (c .says .ensures) (c .before .before .answer-number .ensures) (c .before .verdict-place .ensures)
 
 pub check-answer-spec : {M : Type 1} → statement M
 check-answer-spec =

@@ -1,6 +1,8 @@
 -- `list_place` meets its contract: each case has its own place.
 -- Assumes nothing.
 use borrow.Author.Needs.{needs}
+use mathlib.Core.Path.{sym, ap, _∙_}
+use Rattle.hut.specs.Answer.{listPlace}
 use Rattle.hut.proofs.answers.list_place.Statement.{statement}
 use Rattle.hut.proofs.answers.list_place.Tie as tie
 
@@ -26,10 +28,10 @@ returns : tie.Need-returns
 returns c = search needs
 
 returns-2 : tie.Need-returns-2
-returns-2 c = cc
+returns-2 c = c .at-job .ensures ∙ sym (ap listPlace (c .before .before .p .given .1))
 
 returns-3 : tie.Need-returns-3
-returns-3 c = cc
+returns-3 c = c .at-edge .ensures ∙ sym (ap listPlace (c .before .before .p2 .given .1))
 
 pub list-place-spec : {M : Type 1} → statement M
 list-place-spec =

@@ -1,7 +1,10 @@
 -- `read_answer` meets its contract: the reader's number and place.
 -- Assumes nothing.
 use borrow.Author.Needs.{needs}
+use mathlib.Core.Path.{ap, _∙_}
 use Rattle.hut.specs.Calls.{readAnswer}
+use Rattle.hut.specs.Answer.{spotPlace}
+use Rattle.hut.proofs.Parts.{same-says}
 use Rattle.hut.proofs.answers.read_answer.Statement.{statement}
 use Rattle.hut.proofs.answers.read_answer.Tie as tie
 
@@ -19,7 +22,9 @@ says-requires c κs = search needs
 
 returns : tie.Need-returns
 unfolding readAnswer
-returns c = cc
+returns c =
+    same-says _ _ _ _ _ (c .says .ensures) (c .before .before .before .read-number .ensures)
+    (c .before .spot-place .ensures ∙ ap spotPlace (c .before .before .read-place .ensures))
 
 pub read-answer-spec : {M : Type 1} → statement M
 read-answer-spec =

@@ -1,6 +1,8 @@
 -- `spot_place` meets its contract: each case has its own place.
 -- Assumes nothing.
 use borrow.Author.Needs.{needs}
+use mathlib.Core.Path.{sym, ap, _∙_}
+use Rattle.hut.specs.Answer.{spotPlace}
 use Rattle.hut.proofs.answers.spot_place.Statement.{statement}
 use Rattle.hut.proofs.answers.spot_place.Tie as tie
 
@@ -26,7 +28,7 @@ returns : tie.Need-returns
 returns c = search needs
 
 returns-2 : tie.Need-returns-2
-returns-2 c = cc
+returns-2 c = c .place-at .ensures ∙ sym (ap spotPlace (c .before .before .s2 .given .1))
 
 returns-3 : tie.Need-returns-3
 returns-3 c = search needs

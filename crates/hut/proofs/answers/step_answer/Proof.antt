@@ -1,7 +1,10 @@
 -- `step_answer` meets its contract: the step's number and place, and the order.
 -- Assumes nothing.
 use borrow.Author.Needs.{needs}
+use mathlib.Core.Path.{refl, ap, _∙_}
 use Rattle.hut.specs.Calls.{stepAnswer}
+use Rattle.hut.specs.Answer.{listPlace}
+use Rattle.hut.proofs.Parts.{same-parts}
 use Rattle.hut.proofs.answers.step_answer.Statement.{statement}
 use Rattle.hut.proofs.answers.step_answer.Tie as tie
 
@@ -19,7 +22,9 @@ order-of-requires c κs = search needs
 
 returns : tie.Need-returns
 unfolding stepAnswer
-returns c = cc
+returns c =
+    same-parts _ _ _ _ _ _ _ _ (c .before .before .before .answer-number .ensures)
+    (c .before .list-place .ensures ∙ ap listPlace (c .before .before .answer-place .ensures)) (c .order-of .ensures) refl
 
 pub step-answer-spec : {M : Type 1} → statement M
 step-answer-spec =

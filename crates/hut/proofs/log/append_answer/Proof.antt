@@ -1,7 +1,10 @@
 -- `append_answer` meets its contract: the append's number and place, and where it puts the plan.
 -- Assumes nothing.
 use borrow.Author.Needs.{needs}
+use mathlib.Core.Path.{ap, _∙_}
 use Rattle.hut.specs.Log.{appendAnswer}
+use Rattle.hut.specs.Answer.{spotPlace}
+use Rattle.hut.proofs.Parts.{same-says, same-log}
 use Rattle.hut.proofs.log.append_answer.Statement.{statement}
 use Rattle.hut.proofs.log.append_answer.Tie as tie
 
@@ -25,7 +28,10 @@ log-answer-requires c κs = search needs
 
 returns : tie.Need-returns
 unfolding appendAnswer
-returns c = cc
+returns c = let places = c .before .before .before in
+    same-log _ _ _ _ _ (c .log-answer .ensures)
+    (same-says _ _ _ _ _ (c .before .before .says .ensures) (places .before .before .append-number .ensures) (places .spot-place .ensures ∙ ap spotPlace (places .before .append-place .ensures)))
+    (c .before .appended-span .ensures)
 
 pub append-answer-spec : {M : Type 1} → statement M
 append-answer-spec =

@@ -2,6 +2,7 @@
 -- Assumes nothing.
 use borrow.Author.Needs.{needs}
 use Rattle.hut.specs.Log.{foundAnswer}
+use Rattle.hut.proofs.Parts.{same-says, same-log}
 use Rattle.hut.proofs.log.found_answer.Statement.{statement}
 use Rattle.hut.proofs.log.found_answer.Tie as tie
 
@@ -22,7 +23,10 @@ log-answer-requires c κs = search needs
 
 returns : tie.Need-returns
 unfolding foundAnswer
-returns c = cc
+returns c = let places = c .before .before .before in
+    same-log _ _ _ _ _ (c .log-answer .ensures)
+    (same-says _ _ _ _ _ (c .before .before .says .ensures) (places .before .found-number .ensures) (places .no-place .ensures))
+    (c .before .found-span .ensures)
 
 pub found-answer-spec : {M : Type 1} → statement M
 found-answer-spec =
