@@ -1,16 +1,15 @@
-// The log of plans in a file: its store made, appended to and read, and what is said of it.
-mod told;
+// The log of plans in a file: its store made, appended to and read.
 mod writes;
 
 use files::complain;
 use files::send;
 use files::unwritten;
+use logtext::end_of;
+use logtext::plan_at;
 use logwalk::FindWhy;
 use logwalk::Found;
 use logwalk::STORE_MOST;
-use logwalk::Span;
 use page::Page;
-use page::plus;
 use planlog::Appended;
 use text::Decimal;
 use text::part;
@@ -23,14 +22,6 @@ fn room_for(store: &[u8], plan: &[u8]) -> Appended {
 
 fn newest_of(store: &[u8]) -> Found {
     logwalk::newest(store)
-}
-
-fn end_of(s: Span) -> usize {
-    plus(s.start, s.size)
-}
-
-pub(crate) fn plan_at(store: &[u8], s: Span) -> &[u8] {
-    part(store, s.start, end_of(s))
 }
 
 fn misused() {
@@ -62,11 +53,11 @@ fn make_of(path: &[u8], size: usize) {
         return;
     }
     if files::create(path, part(&zeros, 0, size)) {
-        send(told::put_made(Page::output(), path, size));
+        send(logtext::put_made(Page::output(), path, size));
     }
 }
 
-// desk log STORE new BYTES
+// desk log STORE new BYTES; a store that would be too large is told as one that is.
 fn make(path: &[u8], bytes: &[u8]) {
     if !is_digits(bytes) {
         misused();
@@ -74,24 +65,24 @@ fn make(path: &[u8], bytes: &[u8]) {
     }
     match text::number(bytes, STORE_MOST) {
         Decimal::Is(n) => make_of(path, n),
-        Decimal::Not => send(told::put_not_found(Page::output(), FindWhy::Large)),
+        Decimal::Not => send(logtext::put_not_found(Page::output(), FindWhy::Large)),
     }
 }
 
 // Appends where there is room, and says so once all is on the disk.
 fn append_at(fd: i32, path: &[u8], size: usize, from: &[u8], plan: &[u8], at: usize) {
     if writes::make(fd, size, at, plan) {
-        send(told::put_appended(Page::output(), from, plan, at, size));
+        send(logtext::put_appended(Page::output(), from, plan, at, size));
         return;
     }
     os::fail(path);
-    complain(told::put_cut(Page::errors(), path));
+    complain(logtext::put_cut(Page::errors(), path));
 }
 
 fn append_bytes(fd: i32, path: &[u8], store: &[u8], from: &[u8], plan: &[u8]) {
     match room_for(store, plan) {
         Appended::At(at) => append_at(fd, path, store.len(), from, plan, at),
-        Appended::No(w) => send(told::put_refused(Page::output(), plan, w)),
+        Appended::No(w) => send(logtext::put_refused(Page::output(), plan, w)),
     }
 }
 
@@ -137,19 +128,19 @@ fn is_over(to: &[u8], store: &[u8], plan: &[u8]) -> bool {
 
 fn save(to: &[u8], store: &[u8], plan: &[u8], at: usize) {
     if is_over(to, store, plan) {
-        complain(told::put_own(Page::errors(), to));
+        complain(logtext::put_own(Page::errors(), to));
         unwritten(to);
         return;
     }
     if files::write(to, plan) {
-        send(told::put_found(Page::output(), to, plan, at));
+        send(logtext::put_found(Page::output(), to, plan, at));
     }
 }
 
 fn newest_in(store: &[u8], to: &[u8]) {
     match newest_of(store) {
         Found::Plan(s) => save(to, store, plan_at(store, s), s.start),
-        Found::No(w) => send(told::put_not_found(Page::output(), w)),
+        Found::No(w) => send(logtext::put_not_found(Page::output(), w)),
     }
 }
 
@@ -164,8 +155,8 @@ fn newest(path: &[u8], to: &[u8]) {
 
 fn list_in(path: &[u8], store: &[u8]) {
     match newest_of(store) {
-        Found::Plan(s) => send(told::put_list(Page::output(), path, store, end_of(s))),
-        Found::No(w) => complain(told::put_not_found(Page::errors(), w)),
+        Found::Plan(s) => send(logtext::put_list(Page::output(), path, store, end_of(s))),
+        Found::No(w) => complain(logtext::put_not_found(Page::errors(), w)),
     }
 }
 
@@ -178,15 +169,8 @@ fn list(path: &[u8]) {
     }
 }
 
-// desk log STORE WORD ..: whether there is such a command.
-pub fn command(path: &[u8], word: &[u8], given: &[u8]) -> bool {
-    if same(word, b"list") {
-        list(path);
-        return true;
-    }
-    if given.len() == 0 {
-        return false;
-    }
+// The words that are given one more.
+fn on_given(path: &[u8], word: &[u8], given: &[u8]) -> bool {
     if same(word, b"new") {
         make(path, given);
         return true;
@@ -200,4 +184,16 @@ pub fn command(path: &[u8], word: &[u8], given: &[u8]) -> bool {
         return true;
     }
     false
+}
+
+// desk log STORE WORD ..: whether there is such a command.
+pub fn command(path: &[u8], word: &[u8], given: &[u8]) -> bool {
+    if same(word, b"list") {
+        list(path);
+        return true;
+    }
+    if given.len() == 0 {
+        return false;
+    }
+    on_given(path, word, given)
 }

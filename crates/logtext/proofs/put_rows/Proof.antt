@@ -2,8 +2,8 @@
 -- Assumes nothing.
 use native.Mathlib.Omega.{arith}
 use Prim.Native.Nat.{_-_}
-use Rattle.logs.proofs.told.put_rows.Statement.{statement}
-use Rattle.logs.proofs.told.put_rows.Tie as tie
+use Rattle.logtext.proofs.put_rows.Statement.{statement}
+use Rattle.logtext.proofs.put_rows.Tie as tie
 
 abbrev Inv-loop : tie.InvT-loop
 Inv-loop store newest to₀ end₀ i₀ to end i = Unit {0}
