@@ -6,12 +6,12 @@ use mathlib.Core.List.{List, [], _∷_, _++_}
 use lib.ListN.{length, take, drop, replicate}
 use Rattle.basics.specs.Limits.{Limits}
 use Rattle.logwalk.specs.Walk.{endOf, walk, lastEnd}
-use Rattle.planlog.specs.Writes.{writesOf, noWrite, nthWrite, written}
 use Rattle.logwalk.specs.Answer.{bytesOf, newestOf}
-use Rattle.planlog.specs.Answer.{appendOf, cutStore, appendedStore}
-use Rattle.planlog.specs.declared.Appended.the-variants.{At}
 use Rattle.logwalk.specs.declared.Found.the-variants.{Plan as Whole}
 use Rattle.logwalk.specs.declared.Span.{Span}
+use Rattle.planlog.specs.Writes.{writesOf, noWrite, nthWrite, written}
+use Rattle.planlog.specs.Answer.{appendOf, cutStore, appendedStore}
+use Rattle.planlog.specs.declared.Appended.the-variants.{At}
 
 -- the plan that an append puts into the store
 abbrev pub newSpan : Limits → List ℕ → List ℕ → Span

@@ -13,7 +13,7 @@ use planfile::ReadWhy;
 use verdict::Spot;
 
 // No append writes more bytes: each byte of the store at most twice.
-pub const WRITES_MOST: usize = 2 * STORE_MOST;
+const WRITES_MOST: usize = 2 * STORE_MOST;
 
 // One byte written into a store.
 pub struct Write {
