@@ -146,6 +146,8 @@ static void finding(void)
     struct device damaged = d;
     damaged.bytes[46 + 20] ^= 1;
     expect("C damaged: A is the newest", stands(newest(&damaged), 0, A));
+    expect("C's trailer leads to its start as before, but to no plan", refused(previous(&damaged, 126), 51));
+    expect("zeros lead eight bytes back, to no plan", refused(previous(&d, STORE_BYTES), 51));
     expect("and the next append takes its place", stands(append(&damaged, B), 46, B) && has_bytes(&damaged, 46, B));
     expect("and clears what followed it", all(damaged.bytes, 92, STORE_BYTES, 0));
 
