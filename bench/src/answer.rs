@@ -22,6 +22,25 @@ pub struct Answer {
     pub length: usize,
 }
 
+/// What the log answers: on yes where the plan begins in the store, and its bytes.
+#[repr(C)]
+#[derive(Clone, Copy, Debug, PartialEq, Eq)]
+pub struct LogAnswer {
+    pub answer: Answer,
+    pub at: usize,
+    pub bytes: usize,
+}
+
+impl LogAnswer {
+    pub fn plan_at(at: usize, bytes: usize) -> LogAnswer {
+        LogAnswer { answer: YES, at, bytes }
+    }
+
+    pub fn no(answer: Answer) -> LogAnswer {
+        LogAnswer { answer, at: ABSENT, bytes: ABSENT }
+    }
+}
+
 const NOWHERE: Place = Place {
     fault: ABSENT,
     slot: ABSENT,

@@ -9,6 +9,7 @@ mod compare;
 mod frame;
 mod held;
 mod hut;
+mod logs;
 mod named;
 mod plain;
 mod timing;
@@ -27,8 +28,9 @@ mod state;
 
 use answer::Answer;
 use frame::{Ends, Frame};
-use named::{Named, MOST_PLAN_BYTES};
 use held::Held;
+use logs::{Side, RATTLE, RUST};
+use named::{Named, MOST_PLAN_BYTES};
 use timing::Timed;
 
 fn main() -> ExitCode {
@@ -44,18 +46,70 @@ fn main() -> ExitCode {
     for named in &lists {
         time(named);
     }
+    let plans: Vec<&[u8]> = lists.iter().filter_map(|named| named.plan.as_deref()).collect();
+    if let [small, .., largest] = plans[..] {
+        time_log(small, largest);
+    }
     ExitCode::SUCCESS
 }
 
 fn time(named: &Named) {
-    row(named, "check", check(named));
+    let row = |call, timed| row(named.name, call, timed);
+    row("check", check(named));
     if let Some(plan) = &named.plan {
-        row(named, "build", build(named));
+        row("build", build(named));
         let (_, state) = hut::open(plan, 0);
         let frame = |ends| Frame::of(&state.plain(), named.lo.len(), ends);
-        row(named, "step, ends at CLO", steps(&frame(Ends::Ordinary)));
-        row(named, "step, fewest ends", steps(&frame(Ends::Fewest)));
+        row("step, ends at CLO", steps(&frame(Ends::Ordinary)));
+        row("step, fewest ends", steps(&frame(Ends::Fewest)));
     }
+}
+
+/// The last list's plan, a largest one, fills a log; and into an empty one goes also the first's.
+fn time_log(small: &[u8], largest: &[u8]) {
+    let most = logs::most(largest);
+    row("log, empty", "append, small", append(small, 0));
+    row("log, empty", "append, largest", append(largest, 0));
+    row(&format!("log, {} largest", most - 1), "append, largest", append(largest, most - 1));
+    let full = format!("log, {most} largest");
+    row(&full, "append: 50", append(largest, most));
+    let store = logs::holding(largest, most);
+    row(&full, "newest", newest(&store));
+    row(&full, "list", list(&store));
+}
+
+/// An append to a log of so many. What it wrote is zeroed again, in the time: on both sides the
+/// same bytes, at most a plan's.
+fn append(plan: &[u8], times: usize) -> Timed {
+    let with = |side: Side| {
+        let mut store = logs::holding(plan, times);
+        let written = times * plan.len()..store.len().min((times + 1) * plan.len());
+        move || {
+            black_box((side.append)(black_box(&mut store), black_box(plan)));
+            store[written.clone()].fill(0);
+        }
+    };
+    timing::pair(with(RATTLE), with(RUST))
+}
+
+fn newest(store: &[u8]) -> Timed {
+    let with = |side: Side| {
+        move || {
+            black_box((side.newest)(black_box(store)));
+        }
+    };
+    timing::pair(with(RATTLE), with(RUST))
+}
+
+fn list(store: &[u8]) -> Timed {
+    let with = |side: Side| {
+        move || {
+            side.list(black_box(store), |answer| {
+                black_box(answer);
+            });
+        }
+    };
+    timing::pair(with(RATTLE), with(RUST))
 }
 
 fn check(named: &Named) -> Timed {
@@ -99,14 +153,11 @@ where
     }
 }
 
-fn row(named: &Named, call: &str, timed: Timed) {
+fn row(name: &str, call: &str, timed: Timed) {
     let (rattle, rust) = (time_of(timed.rattle), time_of(timed.rust));
     let (low, high) = timed.quartiles;
     let ratio = timed.ratio;
-    println!(
-        "| {} | {call} | {rattle} | {rust} | {ratio:.2} | {low:.2} to {high:.2} |",
-        named.name
-    );
+    println!("| {name} | {call} | {rattle} | {rust} | {ratio:.2} | {low:.2} to {high:.2} |");
 }
 
 fn time_of(nanoseconds: f64) -> String {

@@ -4,9 +4,9 @@ use std::collections::BTreeSet;
 
 use crate::answer::{Answer, ABSENT};
 use crate::hut;
-use crate::plain::build::TRAILER_BYTES;
 use crate::plain::check::switches_at;
 use crate::plain::list::{self, Job, List};
+use crate::plain::plan::TRAILER_BYTES;
 use crate::plain::IDLE;
 use crate::random::Random;
 

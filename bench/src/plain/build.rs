@@ -4,11 +4,9 @@ use super::hitable::table_hi;
 use super::late::{keep_first, late_table};
 use super::list::{self, List, MOST_SLOTS};
 use super::lotable::table_lo;
+use super::plan::{put_plan, TRAILER_BYTES};
 use super::{check, IDLE};
 use crate::answer::{Answer, Place};
-
-const MARK: [u8; 4] = [0x54, 0x54, 0x50, 0x31];
-pub const TRAILER_BYTES: usize = 8;
 
 /// Builds a plan at the front of `out`; a refusal leaves `out` as it was.
 #[inline(never)]
@@ -52,14 +50,4 @@ fn make_pair(list: &List, lo: &mut [u8], hi: &mut [u8]) -> Result<(), Answer> {
     table_lo(list, low, left, lo)?;
     table_hi(list, lo, high, hi);
     Ok(())
-}
-
-fn put_plan(list: &[u8], lo: &[u8], hi: &[u8], out: &mut [u8]) -> usize {
-    let back = list.len() + lo.len() + hi.len();
-    let mut at = 0;
-    for part in [list, lo, hi, &(back as u32).to_le_bytes(), &MARK] {
-        out[at..at + part.len()].copy_from_slice(part);
-        at += part.len();
-    }
-    at
 }

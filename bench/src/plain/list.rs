@@ -7,6 +7,37 @@ const HEAD_BYTES: usize = 8;
 const JOB_BYTES: usize = 10;
 const EDGE_BYTES: usize = 2;
 
+/// The three counts at the front, as they stand.
+pub struct Counts {
+    jobs: usize,
+    edges: usize,
+    pub slots: usize,
+}
+
+impl Counts {
+    pub fn of(bytes: &[u8]) -> Counts {
+        Counts { jobs: word_at(bytes, 0), edges: word_at(bytes, 2), slots: word_at(bytes, 4) }
+    }
+
+    pub fn list_bytes(&self) -> usize {
+        HEAD_BYTES + JOB_BYTES * self.jobs + EDGE_BYTES * self.edges
+    }
+
+    /// 1 to 3.
+    pub fn test(&self) -> Result<(), Answer> {
+        if !(1..=MOST_JOBS).contains(&self.jobs) {
+            return Err(Answer::bare(1));
+        }
+        if self.edges > MOST_EDGES {
+            return Err(Answer::bare(2));
+        }
+        if !(1..=MOST_SLOTS).contains(&self.slots) {
+            return Err(Answer::bare(3));
+        }
+        Ok(())
+    }
+}
+
 #[derive(Clone, Copy)]
 pub struct Job {
     pub arrival: usize,
@@ -66,8 +97,13 @@ pub fn read(bytes: &[u8]) -> Result<List<'_>, Answer> {
     if bytes.len() < HEAD_BYTES {
         return Err(Answer::bare(40));
     }
-    let (n, slots) = counts(bytes)?;
-    let (jobs, edges) = bytes[HEAD_BYTES..].split_at(JOB_BYTES * n);
+    let counts = Counts::of(bytes);
+    counts.test()?;
+    if bytes.len() != counts.list_bytes() {
+        return Err(Answer::bare(43));
+    }
+    let slots = counts.slots;
+    let (jobs, edges) = bytes[HEAD_BYTES..].split_at(JOB_BYTES * counts.jobs);
     let list = List { jobs: jobs.as_chunks().0, edges: edges.as_chunks().0, slots };
     if word_at(bytes, 6) != 0 || list.jobs.iter().any(|job| job[9] != 0) {
         return Err(Answer::bare(44));
@@ -89,24 +125,6 @@ pub fn read(bytes: &[u8]) -> Result<List<'_>, Answer> {
 
 fn word_at(bytes: &[u8], at: usize) -> usize {
     usize::from(u16::from_le_bytes([bytes[at], bytes[at + 1]]))
-}
-
-/// The job count and the frame length.
-fn counts(bytes: &[u8]) -> Result<(usize, usize), Answer> {
-    let (n, m, slots) = (word_at(bytes, 0), word_at(bytes, 2), word_at(bytes, 4));
-    if !(1..=MOST_JOBS).contains(&n) {
-        return Err(Answer::bare(1));
-    }
-    if m > MOST_EDGES {
-        return Err(Answer::bare(2));
-    }
-    if !(1..=MOST_SLOTS).contains(&slots) {
-        return Err(Answer::bare(3));
-    }
-    if bytes.len() != HEAD_BYTES + JOB_BYTES * n + EDGE_BYTES * m {
-        return Err(Answer::bare(43));
-    }
-    Ok((n, slots))
 }
 
 /// The number of the refusal, if there is one.

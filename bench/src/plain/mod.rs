@@ -7,6 +7,8 @@ pub mod dispatch;
 mod hitable;
 mod late;
 pub mod list;
+pub mod log;
 mod lotable;
+pub mod plan;
 
 pub use crate::limits::IDLE;
