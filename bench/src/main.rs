@@ -68,22 +68,27 @@ fn time(named: &Named) {
 /// The last list's plan, a largest one, fills a log; and into an empty one goes also the first's.
 fn time_log(small: &[u8], largest: &[u8]) {
     let most = logs::most(largest);
-    row("log, empty", "append, small", append(small, 0));
-    row("log, empty", "append, largest", append(largest, 0));
-    row(&format!("log, {} largest", most - 1), "append, largest", append(largest, most - 1));
+    let holding = |times| logs::holding(largest, times);
+    row("log, empty", "append, small", append(holding(0), small));
+    row("log, empty", "append, largest", append(holding(0), largest));
+    let before = format!("log, {} largest", most - 1);
+    row(&before, "append, largest", append(holding(most - 1), largest));
     let full = format!("log, {most} largest");
-    row(&full, "append: 50", append(largest, most));
-    let store = logs::holding(largest, most);
+    row(&full, "append, small", append(holding(most), small));
+    row(&full, "append, largest: 50", append(holding(most), largest));
+    let store = holding(most);
     row(&full, "newest", newest(&store));
     row(&full, "list", list(&store));
 }
 
-/// An append to a log of so many. What it wrote is zeroed again, in the time: on both sides the
-/// same bytes, at most a plan's.
-fn append(plan: &[u8], times: usize) -> Timed {
+/// An append to a log. What it wrote is zeroed again, in the time: on both sides the same bytes, a
+/// plan's.
+fn append(log: Vec<u8>, plan: &[u8]) -> Timed {
+    let answer = (RUST.append)(&mut log.clone(), plan);
+    let is_written = answer.answer.number == 0;
+    let written = if is_written { answer.at..answer.at + answer.bytes } else { 0..0 };
     let with = |side: Side| {
-        let mut store = logs::holding(plan, times);
-        let written = times * plan.len()..store.len().min((times + 1) * plan.len());
+        let (mut store, written) = (log.clone(), written.clone());
         move || {
             black_box((side.append)(black_box(&mut store), black_box(plan)));
             store[written.clone()].fill(0);
