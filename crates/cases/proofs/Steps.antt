@@ -14,7 +14,7 @@ use Rattle.cases.specs.Steps.{EachRuns, runs, Says, bad, good, counted}
 
 pub all-run : EachRuns runs
 unfolding allBelow allOf pick isSet sizesOk byteOk slotOk tablesOk edgesOk jobOk jobsOk unitsOk endedBefore predsDone namedIn bump pastHigh lateLow mayRun choiceIn difference tickOf freshHead need _⨾_ tickTest planOk runOk soundOn endTest liveTest bookJob bookOf moveOf freshRun testOf orderOf nextOf answerOf stepOn freshOf
-all-run = (refl, (refl, (refl, (refl, tt))))
+all-run = (refl, (refl, (refl, (refl, (refl, (refl, (refl, tt)))))))
 
 -- each part of row 37 refuses, and nothing else does
 pub all-bad : Says (λ n. n ≡ 37) bad

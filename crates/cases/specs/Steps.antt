@@ -1,4 +1,4 @@
--- The dispatcher, worked on paper beyond P11 and P12: row 37 part by part, an early end, a cut, a switch, 35, and the most that a count holds.
+-- The dispatcher, worked on paper beyond P11 and P12: row 37 part by part, an early end, a cut, a switch, 35, 36, and the most that a count holds.
 -- Assumes nothing.
 use Prim.Native.Nat.{ℕ}
 use mathlib.Core.Path.{_≡_}
@@ -59,6 +59,12 @@ runs =
     ∷ turn 4 true 0 (some idle) 4 1 ∷ turn 5 false 0 (some 1) 0 0 ∷ [])
     -- 34 comes after the tick: with the same tick it is 30
     ∷ (turn 0 true 34 none 4 0 ∷ turn 65535 true 30 none 4 0 ∷ [])
+    -- so is half the counter away, which is 36 before 34 would hold, and before 35; then 32
+    ∷ (turn 32767 true 36 none 4 0 ∷ turn 0 false 32 none 4 0 ∷ [])
+    ∷ (turn 0 false 0 (some 1) 0 0 ∷ turn 1 false 0 (some 1) 1 0 ∷ turn 2 false 0 (some 0) 2 0 ∷ turn 3 false 0 (some 0) 3 1
+    ∷ turn 4 false 0 (some 0) 4 1 ∷ turn 32772 false 36 none 4 1 ∷ turn 5 false 32 none 4 1 ∷ [])
+    -- one tick further is stale, and the next tick is taken as if it had not come
+    ∷ (turn 0 false 0 (some 1) 0 0 ∷ turn 32769 false 33 none 0 0 ∷ turn 1 false 0 (some 1) 1 0 ∷ [])
     ∷ []
 
 -- the opened state with another plan, head or unit count

@@ -13,9 +13,9 @@ use Rattle.machine.specs.Run.{Run}
 use Rattle.parts.specs.declared.plan.Plan.{Plan}
 use Rattle.machine.specs.declared.answer.Answer.the-variants.{No}
 use Rattle.machine.specs.declared.answer.Why.{Why}
-use Rattle.machine.specs.declared.answer.Why.the-variants.{BadState, Halted, SameTick, StaleTick, TicksLost, NoJob, PastHigh}
+use Rattle.machine.specs.declared.answer.Why.the-variants.{BadState, Halted, SameTick, HalfAway, StaleTick, TicksLost, NoJob, PastHigh}
 use Rattle.machine.specs.declared.tick.Tick.{Tick}
-use Rattle.machine.specs.declared.tick.Tick.the-variants.{Next, Same, Lost, Stale}
+use Rattle.machine.specs.declared.tick.Tick.the-variants.{Next, Same, Lost, Half, Stale}
 use Rattle.parts.specs.Marks.{isSet}
 use Rattle.machine.specs.Numbers.{haltsOf}
 use Rattle.parts.specs.Scan.{pastHigh}
@@ -40,6 +40,7 @@ module _ (lim : Limits) (p : Plan) (r : Run) (tick : ℕ) (e : Bool) where
     is-bad : soundRun lim p r ≡ false → Reason BadState
     is-halted : soundRun lim p r ≡ true → isSet (r .head .halted) ≡ true → Reason Halted
     is-same : Live → tickOf (r .head .last) tick ≡ Same → Reason SameTick
+    is-half : Live → tickOf (r .head .last) tick ≡ Half → Reason HalfAway
     is-stale : Live → tickOf (r .head .last) tick ≡ Stale → Reason StaleTick
     is-lost : Live → tickOf (r .head .last) tick ≡ Lost → Reason TicksLost
     has-no-job : Live → tickOf (r .head .last) tick ≡ Next → r .head .ordered ≡ idle → e ≡ true → Reason NoJob
@@ -66,6 +67,7 @@ module _ (lim : Limits) (p : Plan) (r : Run) (tick : ℕ) (e : Bool) where
       by-test true v true k t m i n c l z w = refused (is-halted v k)
       by-test true v false k Same m i n c l z w = refused (is-same (v, k) m)
       by-test true v false k Lost m i n c l z w = refused (is-lost (v, k) m)
+      by-test true v false k Half m i n c l z w = refused (is-half (v, k) m)
       by-test true v false k Stale m i n c l z w = refused (is-stale (v, k) m)
       by-test true v false k Next m true n true l z w = refused (has-no-job (v, k) m (eqb-true _ _ n) l)
       by-test true v false k Next m true n false l z w = rw (n) (taken (v, k) m was-idle)

@@ -21,7 +21,7 @@ use Rattle.dispatch.proofs.Did.{Did, refused, taken, did}
 
 module _ (lim : Limits) where
   module _ (s : State) (tick : ℕ) (e : Bool) where
-    -- 31 and 35 set the halted mark and change nothing else; every other refusal changes nothing
+    -- 31, 35 and 36 set the halted mark and change nothing else; every other refusal changes nothing
     pub refused-leaves : (w : Why) → stepOf lim s tick e .answer ≡ No w → stepOf lim s tick e .state ≡ refusedOf w s
     unfolding orderOf
     refused-leaves w = go (stepOn lim (s .plan) (runOf s) tick e) (did lim (s .plan) (runOf s) tick e)

@@ -19,7 +19,7 @@ use Rattle.parts.specs.declared.plan.Plan.{Plan}
 use Rattle.dispatch.specs.declared.state.State.{State}
 use Rattle.machine.specs.declared.answer.Answer.{Answer}
 use Rattle.machine.specs.declared.answer.Why.{Why}
-use Rattle.machine.specs.declared.answer.Why.the-variants.{BadState, Halted, SameTick, StaleTick, TicksLost, NoJob, PastHigh}
+use Rattle.machine.specs.declared.answer.Why.the-variants.{BadState, Halted, SameTick, HalfAway, StaleTick, TicksLost, NoJob, PastHigh}
 use Rattle.machine.specs.declared.tick.Tick.the-variants.{Next}
 use Rattle.parts.specs.Marks.{isSet}
 use Rattle.machine.specs.Tick.{difference, tickOf}
@@ -28,7 +28,7 @@ use Rattle.dispatch.specs.State.{runOf, stateWith, stateOk, freshOf, ste
 use Rattle.machine.specs.Numbers.{numberOf, answerNumber}
 use Rattle.dispatch.specs.Runs.{Given, Each, answersBy, stateBy, answersOf, stateOf, nextTicks, OnlyJobsRefused}
 use Rattle.machine.proofs.Facts.{state-facts}
-use Rattle.dispatch.proofs.Did.{soundRun, is-bad, is-halted, is-same, is-stale, is-lost, has-no-job, is-past, Did, refused, taken, was-idle, was-job, did}
+use Rattle.dispatch.proofs.Did.{soundRun, is-bad, is-halted, is-same, is-half, is-stale, is-lost, has-no-job, is-past, Did, refused, taken, was-idle, was-job, did}
 use Rattle.dispatch.proofs.Sound.{sound-stays, fresh-sound}
 
 -- a refusal has a number
@@ -36,6 +36,7 @@ pub refused-number : (w : Why) → numberOf w ≡ 0 → ⊥
 refused-number BadState h = omega arith
 refused-number Halted h = omega arith
 refused-number SameTick h = omega arith
+refused-number HalfAway h = omega arith
 refused-number StaleTick h = omega arith
 refused-number TicksLost h = omega arith
 refused-number NoJob h = omega arith
@@ -136,6 +137,7 @@ module _ (lim : Limits) where
       go x (refused (is-bad u)) v more = absurd (not-both (b .ok) u)
       go x (refused (is-halted u k)) v more = absurd (not-both k (b .live))
       go x (refused (is-same u k)) v more = let z : _≡_ {A = ℕ} 0 1 = cc (next) in absurd (omega arith)
+      go x (refused (is-half u k)) v more = let z : _≡_ {A = ℕ} 0 1 = cc (next) in absurd (omega arith)
       go x (refused (is-stale u k)) v more = let z : _≡_ {A = ℕ} 0 1 = cc (next) in absurd (omega arith)
       go x (refused (is-lost u k)) v more = let z : _≡_ {A = ℕ} 0 1 = cc (next) in absurd (omega arith)
       go x (refused (has-no-job u q i k)) v more = inl refl

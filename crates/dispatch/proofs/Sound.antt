@@ -24,7 +24,7 @@ use Rattle.machine.specs.Numbers.{answerNumber}
 use Rattle.dispatch.specs.Runs.{Given, Each, answersBy, answersOf}
 use Rattle.basics.proofs.At.{set-each, zeros-at}
 use Rattle.machine.proofs.Facts.{plan-facts, state-facts, state-sound, named-ok, job-below}
-use Rattle.dispatch.proofs.Did.{soundRun, refused-has, is-bad, is-halted, is-same, is-stale, is-lost, has-no-job, is-past, Did, refused, taken, Booked, was-idle, was-job, did}
+use Rattle.dispatch.proofs.Did.{soundRun, refused-has, is-bad, is-halted, is-same, is-half, is-stale, is-lost, has-no-job, is-past, Did, refused, taken, Booked, was-idle, was-job, did}
 
 module _ (lim : Limits) where
   units-zero : (k n : ℕ) → unitsOk lim (replicate k 0) n ≡ true
@@ -103,6 +103,7 @@ module _ (lim : Limits) where
       go x (refused (is-bad u)) h = not-both v u
       go x (refused (is-halted u k)) h = omega arith
       go x (refused (is-same u k)) h = omega arith
+      go x (refused (is-half u k)) h = omega arith
       go x (refused (is-stale u k)) h = omega arith
       go x (refused (is-lost u k)) h = omega arith
       go x (refused (has-no-job u q i k)) h = omega arith

@@ -57,7 +57,7 @@ OnlyJobsRefused [] = Unit {0}
 OnlyJobsRefused (Order j ∷ l) = OnlyJobsRefused l
 OnlyJobsRefused (No w ∷ l) = (numberOf w ≡ 34) ⊎ (numberOf w ≡ 35)
 
--- what a refusal leaves: 31 and 35 set the halted mark, the others change nothing
+-- what a refusal leaves: 31, 35 and 36 set the halted mark, the others change nothing
 abbrev pub refusedOf : Why → State → State
 refusedOf w s = stateWith (s .plan) (refusedRun w (runOf s))
 

@@ -1,3 +1,4 @@
 pub mod Facts
+pub mod Ticks
 pub mod Book
 pub mod Steps

@@ -12,14 +12,17 @@ use Rattle.machine.specs.declared.head.Turned.{Turned}
 use Rattle.parts.specs.declared.plan.Plan.{Plan}
 use Rattle.machine.specs.declared.answer.Answer.the-variants.{No}
 use Rattle.machine.specs.declared.answer.Why.{Why}
-use Rattle.machine.specs.declared.answer.Why.the-variants.{BadState, Halted}
+use Rattle.machine.specs.declared.answer.Why.the-variants.{BadState, Halted, HalfAway}
 use Rattle.machine.specs.declared.step.Test.{Test}
 use Rattle.machine.specs.declared.step.Test.the-variants.{Pass, Refuse}
+use Rattle.machine.specs.declared.tick.Tick.the-variants.{Half}
 use Rattle.parts.specs.Marks.{isSet}
 use Rattle.machine.specs.Numbers.{haltsOf}
 use Rattle.machine.specs.Run.{Run, joined, withHalted}
 use Rattle.parts.specs.Scan.{namedIn, choiceIn}
-use Rattle.machine.specs.Machine.{Ran, ran, says, need, _⨾_, soundOn, liveTest, orderedHead, refusedHead, refusedRun, bookOf, moveOf, orderOf, testOf, nextOf, answerOf, stepOn}
+use Rattle.machine.specs.Tick.{difference, tickOf}
+use Rattle.machine.specs.Machine.{Ran, ran, says, need, _⨾_, tickTest, soundOn, endTest, liveTest, orderedHead, refusedHead, haltOf, refusedRun, bookOf, moveOf, orderOf, testOf, nextOf, answerOf, stepOn}
+use Rattle.machine.proofs.Ticks.{covered-said}
 
 -- a test that fails refuses, and one that holds is passed over
 pub stops : (b : Bool) (w : Why) (t : Test) → b ≡ false → need b w ⨾ t ≡ Refuse w
@@ -43,6 +46,19 @@ module _ (lim : Limits) (p : Plan) (r : Run) (tick : ℕ) (e : Bool) where
   pub step-halted : soundOn lim p (r .head) (r .units) ≡ true → isSet (r .head .halted) ≡ true → stepOn lim p r tick e ≡ says (No Halted) r
   unfolding answerOf liveTest pick
   step-halted v h = step-sound v ∙ ap (answerOf lim p r tick e) (stops _ Halted _ (ap not h))
+
+  -- what the tick is refused for is the answer, whatever is signalled: an end is dropped with its tick
+  pub step-tick : soundOn lim p (r .head) (r .units) ≡ true → isSet (r .head .halted) ≡ false → (w : Why)
+      → tickTest (tickOf (r .head .last) tick) ≡ Refuse w → stepOn lim p r tick e ≡ says (No w) (refusedRun w r)
+  unfolding answerOf liveTest _⨾_
+  step-tick v h w q =
+      step-sound v ∙ ap (answerOf lim p r tick e) (goes-on _ Halted _ (ap not h) ∙ ap (λ t. t ⨾ endTest lim (p .jobs) (r .head .ordered) (r .units) e) q)
+
+  -- half the counter away: 36, and the halted mark is all that changes
+  pub step-half : soundOn lim p (r .head) (r .units) ≡ true → isSet (r .head .halted) ≡ false
+      → difference tick (r .head .last) ≡ 32768 → stepOn lim p r tick e ≡ says (No HalfAway) (haltOf r)
+  unfolding tickTest pick
+  step-half v h q = step-tick v h HalfAway (ap tickTest (covered-said (r .head .last) tick Half q))
 
 -- booked, moved on and ordered, one after the other
 pub next-is : (lim : Limits) (p : Plan) (r b : Run) (h : Head) (us ds cs : List ℕ) (tick : ℕ) (e : Bool) (x : ℕ) (t : Turned)

@@ -16,11 +16,11 @@ use Rattle.machine.specs.declared.head.Turned.{Turned}
 use Rattle.machine.specs.declared.answer.Answer.{Answer}
 use Rattle.machine.specs.declared.answer.Answer.the-variants.{Order, No}
 use Rattle.machine.specs.declared.answer.Why.{Why}
-use Rattle.machine.specs.declared.answer.Why.the-variants.{BadState, Halted, SameTick, StaleTick, TicksLost, NoJob, PastHigh}
+use Rattle.machine.specs.declared.answer.Why.the-variants.{BadState, Halted, SameTick, HalfAway, StaleTick, TicksLost, NoJob, PastHigh}
 use Rattle.machine.specs.declared.step.Test.{Test}
 use Rattle.machine.specs.declared.step.Test.the-variants.{Pass, Refuse}
 use Rattle.machine.specs.declared.tick.Tick.{Tick}
-use Rattle.machine.specs.declared.tick.Tick.the-variants.{Next, Same, Lost, Stale}
+use Rattle.machine.specs.declared.tick.Tick.the-variants.{Next, Same, Lost, Half, Stale}
 use Rattle.parts.specs.Marks.{isSet}
 use Rattle.machine.specs.Numbers.{haltsOf}
 use Rattle.parts.specs.Plan.{cloOf, isHigh}
@@ -55,9 +55,10 @@ unfoldable pub tickTest : Tick → Test
 tickTest Next = Pass
 tickTest Same = Refuse SameTick
 tickTest Lost = Refuse TicksLost
+tickTest Half = Refuse HalfAway
 tickTest Stale = Refuse StaleTick
 
--- what an order, and what a refusal leaves of a head: 31 and 35 set the halted mark, the others change nothing
+-- what an order, and what a refusal leaves of a head: 31, 35 and 36 set the halted mark, the others change nothing
 abbrev pub orderedHead : Head → ℕ → Turned
 orderedHead h x = record { answer = Order x; head = withOrdered h x }
 

@@ -7,13 +7,14 @@ use Rattle.joblist.specs.declared.Place.the-variants.{Nowhere, AtJob}
 use Rattle.machine.specs.declared.answer.Answer.{Answer}
 use Rattle.machine.specs.declared.answer.Answer.the-variants.{Order, No}
 use Rattle.machine.specs.declared.answer.Why.{Why}
-use Rattle.machine.specs.declared.answer.Why.the-variants.{BadState, Halted, SameTick, StaleTick, TicksLost, NoJob, PastHigh}
+use Rattle.machine.specs.declared.answer.Why.the-variants.{BadState, Halted, SameTick, HalfAway, StaleTick, TicksLost, NoJob, PastHigh}
 
 -- the number of a refusal
 abbrev pub numberOf : Why → ℕ
 numberOf BadState = 37
 numberOf Halted = 32
 numberOf SameTick = 30
+numberOf HalfAway = 36
 numberOf StaleTick = 33
 numberOf TicksLost = 31
 numberOf NoJob = 34
@@ -24,16 +25,18 @@ abbrev pub placeOf : Why → Place
 placeOf BadState = Nowhere
 placeOf Halted = Nowhere
 placeOf SameTick = Nowhere
+placeOf HalfAway = Nowhere
 placeOf StaleTick = Nowhere
 placeOf TicksLost = Nowhere
 placeOf NoJob = Nowhere
 placeOf (PastHigh j) = AtJob j
 
--- whether a refusal halts: 31 and 35
+-- whether a refusal halts: 31, 35 and 36
 abbrev pub haltsOf : Why → Bool
 haltsOf BadState = false
 haltsOf Halted = false
 haltsOf SameTick = false
+haltsOf HalfAway = true
 haltsOf StaleTick = false
 haltsOf TicksLost = true
 haltsOf NoJob = false

@@ -96,6 +96,7 @@ fn tick_test(said: Tick) -> Test
         Tick::Next => Test::Pass,
         Tick::Same => Test::Refuse(Why::SameTick),
         Tick::Lost => Test::Refuse(Why::TicksLost),
+        Tick::Half => Test::Refuse(Why::HalfAway),
         Tick::Stale => Test::Refuse(Why::StaleTick),
     }
 }

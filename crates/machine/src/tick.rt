@@ -6,11 +6,12 @@ pub enum Tick {
     Next,
     Same,
     Lost,
+    Half,
     Stale,
 }
 
-// The least difference that is stale.
-const STALE: u16 = 32768;
+// Half the counter: as far ahead as behind, so nobody knows which.
+const HALF: u16 = 32768;
 
 // The difference modulo 65536 alone decides.
 pub fn said(last: u16, tick: u16) -> Tick
@@ -23,8 +24,11 @@ pub fn said(last: u16, tick: u16) -> Tick
     if d == 1 {
         return Tick::Next;
     }
-    if d < STALE {
+    if d < HALF {
         return Tick::Lost;
+    }
+    if d == HALF {
+        return Tick::Half;
     }
     Tick::Stale
 }

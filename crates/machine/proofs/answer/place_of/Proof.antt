@@ -24,6 +24,9 @@ enum-told-5 c = search needs
 enum-told-6 : tie.Need-enum-told-6
 enum-told-6 c = search needs
 
+enum-told-7 : tie.Need-enum-told-7
+enum-told-7 c = search needs
+
 enum-known-w : tie.Need-enum-known-w
 enum-known-w c = search needs
 
@@ -49,7 +52,10 @@ returns-6 : tie.Need-returns-6
 returns-6 c = search needs
 
 returns-7 : tie.Need-returns-7
-returns-7 c = rw (c .wide .ensures .0) (sym (ap placeOf (c .before .before .w .given .1)))
+returns-7 c = search needs
+
+returns-8 : tie.Need-returns-8
+returns-8 c = rw (c .wide .ensures .0) (sym (ap placeOf (c .before .before .w .given .1)))
 
 pub place-of-spec : {M : Type 1} → statement M
 place-of-spec =
@@ -61,6 +67,7 @@ place-of-spec =
     enum-told-4
     enum-told-5
     enum-told-6
+    enum-told-7
     enum-known-w
     wide-requires
     returns
@@ -69,4 +76,5 @@ place-of-spec =
     returns-4
     returns-5
     returns-6
-    returns-7)
+    returns-7
+    returns-8)
