@@ -1,6 +1,6 @@
 -- `said` meets its contract: the wrapping subtract is the difference, and it alone decides.
 -- Assumes nothing.
-use mathlib.Core.Path.{_≡_, sym, _∙_}
+use mathlib.Core.Path.{_≡_, sym}
 use native.Mathlib.Omega.{arith}
 use borrow.Author.Needs.{needs}
 use Rattle.machine.specs.declared.tick.Tick.the-variants.{Next, Same, Lost, Half, Stale}
@@ -20,16 +20,16 @@ wrapping-sub-u16-requires : tie.Need-wrapping-sub-u16-requires
 wrapping-sub-u16-requires c κs = search needs
 
 returns : tie.Need-returns
-returns c = sym (covered-said _ _ Same (sym (diff (c .before)) ∙ c .if1 .taken))
+returns c = sym (covered-said _ _ Same (omega (arith, diff (c .before))))
 
 returns-2 : tie.Need-returns-2
-returns-2 c = sym (covered-said _ _ Next (sym (diff (c .before .before)) ∙ c .if2 .taken))
+returns-2 c = sym (covered-said _ _ Next (omega (arith, diff (c .before .before))))
 
 returns-3 : tie.Need-returns-3
 returns-3 c = sym (covered-said _ _ Lost (omega (arith, diff (c .before .before .before)), omega (arith, diff (c .before .before .before))))
 
 returns-4 : tie.Need-returns-4
-returns-4 c = sym (covered-said _ _ Half (sym (diff (c .before .before .before .before)) ∙ c .if4 .taken))
+returns-4 c = sym (covered-said _ _ Half (omega (arith, diff (c .before .before .before .before))))
 
 returns-5 : tie.Need-returns-5
 returns-5 c = sym (covered-said _ _ Stale (omega (arith, diff (c .before .before .before .before)), omega (arith, diff (c .before .before .before .before))))
