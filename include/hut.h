@@ -103,6 +103,7 @@ struct hut_place {
  *  33   a stale tick
  *  34   an end was signalled with no job ordered
  *  35   a high job is past CHI: the state is halted              job
+ *  36   a tick half the counter away: the state is halted
  *  37   these bytes are no state
  *  40   too short: a list under 8 bytes, a plan under 16
  *  41   the mark at the plan's end is wrong
@@ -179,9 +180,10 @@ struct hut_answer hut_write(const uint8_t *list, size_t list_bytes, const uint8_
 struct hut_running hut_open(const uint8_t *plan, size_t plan_bytes, uint16_t first);
 
 /* One tick. `ended` says whether the job ordered last signalled its end: 0 is no, any other byte yes.
- * 0, with the order for the slot that begins; or 37, 32, 30, 33, 31, 34, 35, the first of them that holds.
- * Ticks count modulo 65536, so tick 0 follows tick 65535. 31 and 35 halt the state and change nothing else
- * in it; the other refusals change nothing at all. */
+ * 0, with the order for the slot that begins; or 37, 32, 30, 36, 33, 31, 34, 35, the first of them that holds.
+ * Ticks count modulo 65536, so tick 0 follows tick 65535. The tick 1 after the last one is taken; 0 after it is 30,
+ * 2 to 32,767 are 31, 32,768 is 36, and 32,769 to 65,535 are 33. An end signalled with a refused tick is not taken.
+ * 31, 35 and 36 halt the state and change nothing else in it; the other refusals change nothing at all. */
 struct hut_answer hut_step(struct hut_state *state, uint16_t tick, uint8_t ended);
 
 /* The log: plans back to back in one store, the oldest at its first byte. It ends where no plan begins that hut_read

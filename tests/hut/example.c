@@ -159,6 +159,17 @@ static void reading_and_writing(void)
     expect("fifteen bytes are 40", bare(hut_read(plan_a, 15).answer, 40));
 }
 
+/* How many bytes of two states differ. */
+static size_t differing(const struct hut_state *s, const struct hut_state *t)
+{
+    const uint8_t *x = (const uint8_t *)s, *y = (const uint8_t *)t;
+    size_t count = 0;
+    for (size_t i = 0; i < sizeof *s; i++) {
+        count += x[i] != y[i];
+    }
+    return count;
+}
+
 static void running(void)
 {
     struct hut_running o = hut_open(plan_a, sizeof plan_a, 65535);
@@ -179,13 +190,21 @@ static void running(void)
     s = hut_open(plan_a, sizeof plan_a, 0).state;
     expect("P12: 0 orders job 1", orders(hut_step(&s, 0, 0), 1));
     struct hut_state t = s;
-    expect("P12: 32,768 is 33", bare(hut_step(&t, 32768, 0), 33));
+    expect("32,769 is 33", bare(hut_step(&t, 32769, 0), 33));
     expect("P12: 65,535 is 33", bare(hut_step(&t, 65535, 0), 33));
     expect("the same tick is 30", bare(hut_step(&t, 0, 0), 30));
     expect("33 and 30 change nothing", memcmp(&t, &s, sizeof s) == 0);
     struct hut_answer a = hut_step(&t, 32767, 0);
     expect("P12: 32,767 is 31", bare(a, 31) && a.order == NO);
     expect("31 halts: the next is 32", bare(hut_step(&t, 1, 0), 32));
+    expect("31 and 32 change one byte", differing(&t, &s) == 1);
+
+    /* Half the counter away, with an end: it is dropped with its tick, and what is left is what 31 leaves. */
+    struct hut_state half = s;
+    a = hut_step(&half, 32768, 1);
+    expect("P12: 32,768 is 36", bare(a, 36) && a.order == NO);
+    expect("36 halts, and changes nothing else", memcmp(&half, &t, sizeof t) == 0);
+    expect("then the next is 32", bare(hut_step(&half, 1, 0), 32));
 
     /* Any end mark but 0 is an end. */
     struct hut_state u = s;

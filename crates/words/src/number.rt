@@ -7,7 +7,7 @@ use text::find;
 use text::part;
 
 // A line for each number, and under it a line with what to do. The texts begin in the columns below.
-const TABLE: [u8; 3966] = *b"   1  the list does not have 1 to 64 jobs
+const TABLE: [u8; 4127] = *b"   1  the list does not have 1 to 64 jobs
       do: write one line for each job, 1 to 64 in all
    2  the list has more than 256 edges
       do: leave out edges that others give: a before b, b before c need no a before c
@@ -53,6 +53,8 @@ const TABLE: [u8; 3966] = *b"   1  the list does not have 1 to 64 jobs
       do: signal an end only for a job that was ordered: give this tick again without it
   35  a high job ran to its high budget and did not end, and the dispatcher halts
       do: see why the job did not end, and open the plan again
+  36  the tick is half the counter away, as far ahead as behind, and the dispatcher halts
+      do: see what became of the tick counter, and open the plan again
   37  the state is no dispatcher's state: no plan is open, or memory was overwritten
       do: open the plan again, and see that the opening was not refused
   40  too few bytes: a list has 8 or more, a plan 16 or more
