@@ -1,5 +1,5 @@
-//! The second program: document 01 and request 2026-01 once more, in plain code that shares nothing
-//! with the proved code, to compare that with.
+//! The second program: document 01 and requests 2026-01 and 2026-02 of document 02 once more, in
+//! plain code that shares nothing with the proved code, to compare that with.
 
 mod ask;
 mod build;
@@ -37,7 +37,7 @@ use std::process::ExitCode;
 use script::Script;
 
 const USAGE: &str = "\
-second vectors REQUESTS ANSWERS                  the cases that document 01 works on paper
+second vectors REQUESTS ANSWERS                  the cases worked on paper
 second executions SEED COUNT REQUESTS ANSWERS    small lists, every execution tried
 second requests SEED COUNT REQUESTS ANSWERS      requests of every kind
 second cuts SEED COUNT REQUESTS ANSWERS          appends to the log, cut short at every byte

@@ -134,7 +134,8 @@ fn at_the_edge_of_sight(script: &mut Script, random: &mut Random) {
     };
     script.ask(&format!("poke {field} {index} {}", random.pick(&values)));
     next(script, random);
-    next(script, random);
+    // 37 comes first, whatever the tick
+    runs::step(script, random, ENDS);
 }
 
 /// What decides whether the job named next is ordered: its times and marks, in either mode.

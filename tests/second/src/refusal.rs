@@ -1,4 +1,4 @@
-//! A no of document 01: its number, and the place that goes with it.
+//! A no of documents 01 and 02: its number, and the place that goes with it.
 
 use std::fmt;
 

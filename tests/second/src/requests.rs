@@ -15,10 +15,10 @@ use crate::runs;
 use crate::script::Script;
 use crate::unreadable;
 
-/// Every answer of the table "When the desk says no", yes, and a line that cannot be read.
-const NUMBERS: [&str; 33] = [
+/// Every answer of the table "When the desk says no", 36, yes, and a line that cannot be read.
+const NUMBERS: [&str; 34] = [
     "0", "40", "41", "42", "1", "2", "3", "43", "44", "6", "4", "5", "7", "8", "9", "45", "10",
-    "11", "12", "46", "20", "21", "22", "23", "24", "37", "32", "30", "33", "31", "34", "35",
+    "11", "12", "46", "20", "21", "22", "23", "24", "37", "32", "30", "36", "33", "31", "34", "35",
     UNREADABLE,
 ];
 
@@ -31,6 +31,14 @@ const OF_THE_LOG: [(&[&str], &[&str]); 7] = [
     (&["listed"], &["0", "51", "52", UNREADABLE]),
     (&["put"], &["0", UNREADABLE]),
     (&["store", "peek"], &["0", UNREADABLE]),
+];
+
+/// What must come with 36: an end signalled or none, a job ordered or none, as the answer shows.
+const HALF_AWAY: [(&str, &str, bool); 4] = [
+    ("36 with a job", " 0", false),
+    ("36 with a job, and its end", " 1", false),
+    ("36 with no job", " 0", true),
+    ("36 with no job, and an end", " 1", true),
 ];
 
 /// At least `count` requests.
@@ -52,15 +60,23 @@ pub fn make(seed: u64, count: usize) -> (Script, Result<(), String>) {
 
 fn all_came(script: &Script) -> Result<(), String> {
     let mut outcome = Ok(());
+    let mut must_come = |count: usize, what: &str| {
+        println!("{count:>7}  {what}");
+        if count == 0 {
+            outcome = Err(format!("never came: {what}"));
+        }
+    };
     for (words, numbers) in [(&[][..], &NUMBERS[..])].into_iter().chain(OF_THE_LOG) {
         for number in numbers {
-            let count = script.came(words, number);
-            let what = [&[*number], words].concat().join(" ");
-            println!("{count:>7}  {what}");
-            if count == 0 {
-                outcome = Err(format!("never came: {what}"));
-            }
+            must_come(script.came(words, number), &[&[*number], words].concat().join(" "));
         }
+    }
+    for (what, end, is_idle) in HALF_AWAY {
+        let is_meant = |request: &[u8], answer: &str| {
+            let idle = answer.contains(" ordered=255 ");
+            answer.starts_with("36 ") && request.ends_with(end.as_bytes()) && idle == is_idle
+        };
+        must_come(script.count(is_meant), what);
     }
     outcome
 }

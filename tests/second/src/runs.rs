@@ -1,4 +1,5 @@
-//! Requests to the dispatcher: runs that cross tick 65535, with ticks lost, stale and repeated.
+//! Requests to the dispatcher: runs that cross tick 65535, with ticks lost, stale, repeated, and
+//! half the counter away.
 
 use crate::damage;
 use crate::fields::hex;
@@ -64,18 +65,22 @@ fn open(script: &mut Script, random: &mut Random, plan: &[u8]) {
     script.ask(&format!("open {} {first}", hex(plan)));
 }
 
-/// Mostly the next tick, and sometimes one repeated, stale, or after lost ones.
+/// Mostly the next tick, and sometimes one repeated, stale, after lost ones, or half the counter
+/// away: more often where the next would be refused as well, so that it shows which no comes first.
 pub fn step(script: &mut Script, random: &mut Random, ends: usize) {
-    let ahead = match random.below(200) {
+    let state = &script.desk.state;
+    let ended = random.chance(if state.ordered == IDLE { 8 } else { ends });
+    let next = state.tick.wrapping_add(1);
+    let is_refused = state.clone().step(next, ended).is_err();
+    let ahead = match random.below(if is_refused { 40 } else { 200 }) {
         0..6 => 0,
-        6..9 => random.pick(&[32_768, 65_535]),
-        9..12 => random.within(32_768, 65_535),
+        6..9 => random.pick(&[32_769, 65_535]),
+        9..12 => random.within(32_769, 65_535),
         12..14 => random.pick(&[2, 32_767]),
         14..16 => random.within(2, 32_767),
+        16..20 => 32_768,
         _ => 1,
     };
-    let state = &script.desk.state;
     let tick = (usize::from(state.tick) + ahead) % 65_536;
-    let ended = random.chance(if state.ordered == IDLE { 4 } else { ends });
     script.ask(&format!("step {tick} {}", u8::from(ended)));
 }

@@ -51,9 +51,13 @@ impl Script {
             let word = request.split(|&byte| byte == b' ').next().unwrap_or_default();
             words.is_empty() || words.iter().any(|meant| meant.as_bytes() == word)
         };
+        self.count(|request, answer| is_meant(request) && answer.split(' ').next() == Some(number))
+    }
+
+    /// How many requests are meant, by what they ask and what they are answered.
+    pub fn count(&self, is_meant: impl Fn(&[u8], &str) -> bool) -> usize {
         let pairs = self.requests.iter().zip(&self.answers);
-        let with = pairs.filter(|(_, answer)| answer.split(' ').next() == Some(number));
-        with.filter(|(request, _)| is_meant(request)).count()
+        pairs.filter(|(request, answer)| is_meant(request, answer)).count()
     }
 
     /// The last request is left without its newline: it must be answered all the same.

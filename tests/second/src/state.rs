@@ -44,7 +44,12 @@ impl State {
                 self.halted = 1;
                 return Err(Refusal::bare(31));
             }
-            32_768..=65_535 => return Err(Refusal::bare(33)),
+            // half the counter away: nobody can say whether it is behind or ahead
+            32_768 => {
+                self.halted = 1;
+                return Err(Refusal::bare(36));
+            }
+            32_769..=65_535 => return Err(Refusal::bare(33)),
         }
         if self.ordered != IDLE {
             self.book(ended)?;

@@ -1,5 +1,5 @@
-//! The cases that document 01 works on paper, one for 24, and a session with the log of request
-//! 2026-01, with answers written by hand.
+//! The cases that document 01 works on paper, one for 24, a session with the log of request 2026-01
+//! and some with 36 of request 2026-02, with answers written by hand.
 
 use crate::script::Script;
 
@@ -15,6 +15,7 @@ fn cases() -> Vec<(String, String)> {
     let mut cases = builds();
     cases.extend(checks());
     cases.extend(steps());
+    cases.extend(half_away());
     cases.extend(log());
     cases
 }
@@ -65,26 +66,61 @@ fn checks() -> Vec<(String, String)> {
     cases.map(|(request, answer)| (request, answer.to_string())).to_vec()
 }
 
-/// P11, then P12: each of its three ticks is tried on a dispatcher opened for it.
+/// The counts and marks of P1's two jobs: before any unit is booked, and with one of job 1.
+const FRESH: &str = "units=0,0 done=0,0 cut=0,0";
+const ONE_UNIT: &str = "units=0,1 done=0,0 cut=0,0";
+
+/// The state as it is shown, in mode LO.
+fn state(slot: u16, tick: u16, ordered: u8, halted: u8, jobs: &str) -> String {
+    format!(" | slot={slot} tick={tick} ordered={ordered} high=0 halted={halted} {jobs}")
+}
+
+/// P11, then P12 as request 2026-02 amends it, and 32,769 beside it: each of these ticks is tried
+/// on a dispatcher opened for it.
 fn steps() -> Vec<(String, String)> {
-    let fresh = "units=0,0 done=0,0 cut=0,0";
-    let state = |slot, tick, ordered, halted, units: &str| {
-        format!(" | slot={slot} tick={tick} ordered={ordered} high=0 halted={halted} {units}")
-    };
     let mut cases = vec![
-        (format!("open {P1} 65535"), "0".to_string() + &state(4, 65534, 255, 0, fresh)),
-        ("step 65535 0".to_string(), "0 order=1".to_string() + &state(0, 65535, 1, 0, fresh)),
-        (
-            "step 0 0".to_string(),
-            "0 order=1".to_string() + &state(1, 0, 1, 0, "units=0,1 done=0,0 cut=0,0"),
-        ),
+        (format!("open {P1} 65535"), "0".to_string() + &state(4, 65534, 255, 0, FRESH)),
+        ("step 65535 0".to_string(), "0 order=1".to_string() + &state(0, 65535, 1, 0, FRESH)),
+        ("step 0 0".to_string(), "0 order=1".to_string() + &state(1, 0, 1, 0, ONE_UNIT)),
     ];
-    for (tick, no, halted) in [(32767, 31, 1), (32768, 33, 0), (65535, 33, 0)] {
-        cases.push((format!("open {P1} 0"), "0".to_string() + &state(4, 65535, 255, 0, fresh)));
-        cases.push(("step 0 0".to_string(), "0 order=1".to_string() + &state(0, 0, 1, 0, fresh)));
-        cases.push((format!("step {tick} 0"), no.to_string() + &state(0, 0, 1, halted, fresh)));
+    for (tick, no, halted) in [(32767, 31, 1), (32768, 36, 1), (32769, 33, 0), (65535, 33, 0)] {
+        cases.push((format!("open {P1} 0"), "0".to_string() + &state(4, 65535, 255, 0, FRESH)));
+        cases.push(("step 0 0".to_string(), "0 order=1".to_string() + &state(0, 0, 1, 0, FRESH)));
+        cases.push((format!("step {tick} 0"), no.to_string() + &state(0, 0, 1, halted, FRESH)));
     }
     cases
+}
+
+/// 36 beside what else a step may say, each where both hold, and what becomes of an end.
+fn half_away() -> Vec<(String, String)> {
+    // one job (0, 1, high, 1, 1), named by both tables
+    let one_job = "01000000010000000000010001000100010000001400000054545031";
+    let fresh = "units=0 done=0 cut=0";
+    let cases = [
+        // no job is ordered, and an end is signalled: 37 comes before 36, 34 after it
+        (format!("open {P1} 0"), "0", state(4, 65535, 255, 0, FRESH)),
+        ("poke slot 0 5".to_string(), "0", state(5, 65535, 255, 0, FRESH)),
+        ("step 32767 1".to_string(), "37", state(5, 65535, 255, 0, FRESH)),
+        ("poke slot 0 4".to_string(), "0", state(4, 65535, 255, 0, FRESH)),
+        ("step 0 1".to_string(), "34", state(4, 65535, 255, 0, FRESH)),
+        ("step 32767 1".to_string(), "36", state(4, 65535, 255, 1, FRESH)),
+        // it halts, and 32 comes before it
+        ("step 0 0".to_string(), "32", state(4, 65535, 255, 1, FRESH)),
+        ("step 32767 0".to_string(), "32", state(4, 65535, 255, 1, FRESH)),
+        // an end is dropped with it: once the halted mark is cleared, job 1 goes on
+        (format!("open {P1} 0"), "0", state(4, 65535, 255, 0, FRESH)),
+        ("step 0 0".to_string(), "0 order=1", state(0, 0, 1, 0, FRESH)),
+        ("step 32768 1".to_string(), "36", state(0, 0, 1, 1, FRESH)),
+        ("poke halted 0 0".to_string(), "0", state(0, 0, 1, 0, FRESH)),
+        ("step 1 0".to_string(), "0 order=1", state(1, 1, 1, 0, ONE_UNIT)),
+        // the job is at its CHI: 35 comes after 36
+        (format!("open {one_job} 0"), "0", state(0, 65535, 255, 0, fresh)),
+        ("step 0 0".to_string(), "0 order=0", state(0, 0, 0, 0, fresh)),
+        ("step 32768 0".to_string(), "36", state(0, 0, 0, 1, fresh)),
+        ("poke halted 0 0".to_string(), "0", state(0, 0, 0, 0, fresh)),
+        ("step 1 0".to_string(), "35 job=0", state(0, 0, 0, 1, fresh)),
+    ];
+    cases.map(|(request, answer, state)| (request, answer.to_string() + &state)).to_vec()
 }
 
 /// The log's session: two cuts of one append, among its zeros and one byte before its end.
