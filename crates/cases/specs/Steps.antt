@@ -59,7 +59,7 @@ runs =
     ∷ turn 4 true 0 (some idle) 4 1 ∷ turn 5 false 0 (some 1) 0 0 ∷ [])
     -- 34 comes after the tick: with the same tick it is 30
     ∷ (turn 0 true 34 none 4 0 ∷ turn 65535 true 30 none 4 0 ∷ [])
-    -- so is half the counter away, which is 36 before 34 would hold, and before 35; then 32
+    -- half the counter away is 36 where 34 would hold too, and where 35 would; then 32
     ∷ (turn 32767 true 36 none 4 0 ∷ turn 0 false 32 none 4 0 ∷ [])
     ∷ (turn 0 false 0 (some 1) 0 0 ∷ turn 1 false 0 (some 1) 1 0 ∷ turn 2 false 0 (some 0) 2 0 ∷ turn 3 false 0 (some 0) 3 1
     ∷ turn 4 false 0 (some 0) 4 1 ∷ turn 32772 false 36 none 4 1 ∷ turn 5 false 32 none 4 1 ∷ [])

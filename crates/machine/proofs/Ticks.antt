@@ -1,11 +1,12 @@
 -- The five cases of the tick difference are all of them, no two overlap, and each is said exactly where it covers the difference.
 -- Assumes nothing.
-use Prim.Native.Nat.{ℕ, _+_, _-_, _%_, _<_}
-use mathlib.Core.Path.{_≡_, refl, sym, _∙_}
+use Prim.Native.Nat.{ℕ, _+_, _<_}
+use mathlib.Core.Path.{_≡_, refl, sym}
+use mathlib.Core.Logic.{_↔_}
 use mathlib.Core.Bool.{Bool, true, false}
 use native.Mathlib.Omega.{arith}
 use lib.Dec.{ltb, eqb}
-use borrow.Author.Tests.{eqb-true, eqb-false, ltb-true, ltb-false, eq-eqb, ne-eqb, lt-ltb, le-ltb}
+use borrow.Author.Tests.{eqb-true, eqb-false, ltb-true, ltb-false, ne-eqb, lt-ltb, le-ltb}
 use Rattle.basics.specs.Choice.{pick}
 use Rattle.machine.specs.declared.tick.Tick.{Tick}
 use Rattle.machine.specs.declared.tick.Tick.the-variants.{Next, Same, Lost, Half, Stale}
@@ -14,13 +15,14 @@ use Rattle.machine.specs.Tick.{difference, tickOf, Covers, OneCase}
 -- the case that covers the difference is said
 pub covered-said : (last tick : ℕ) (t : Tick) → Covers t (difference tick last) → tickOf last tick ≡ t
 unfolding tickOf pick
-covered-said last tick Same h = simp (eq-eqb _ _ h)
-covered-said last tick Next h = simp (h)
-covered-said last tick Lost h =
-    simp (ne-eqb (difference tick last) 0 (λ e. omega arith), ne-eqb (difference tick last) 1 (λ e. omega arith), lt-ltb (difference tick last) 32768 (omega arith))
-covered-said last tick Half h = simp (h)
-covered-said last tick Stale h =
-    simp (ne-eqb (difference tick last) 0 (λ e. omega arith), ne-eqb (difference tick last) 1 (λ e. omega arith), le-ltb (difference tick last) 32768 (omega arith), ne-eqb (difference tick last) 32768 (λ e. omega arith))
+covered-said last tick = by-case (difference tick last)
+  where
+    by-case : (d : ℕ) (t : Tick) → Covers t d → pick (eqb d 0) Same (pick (eqb d 1) Next (pick (ltb d 32768) Lost (pick (eqb d 32768) Half Stale))) ≡ t
+    by-case d Same h = simp (h)
+    by-case d Next h = simp (h)
+    by-case d Lost h = simp (ne-eqb d 0 (λ e. omega arith), ne-eqb d 1 (λ e. omega arith), lt-ltb d 32768 (omega arith))
+    by-case d Half h = simp (h)
+    by-case d Stale h = simp (ne-eqb d 0 (λ e. omega arith), ne-eqb d 1 (λ e. omega arith), le-ltb d 32768 (omega arith), ne-eqb d 32768 (λ e. omega arith))
 
 -- a difference has 16 bits
 below : (last tick : ℕ) → difference tick last < 65536
@@ -52,3 +54,13 @@ one-case last tick =
 -- the five cases are all of them, and no two overlap
 pub five-cases : (d : ℕ) → d < 65536 → OneCase d
 five-cases d l = rw (← zero-away d l) (one-case 0 d)
+
+-- the way there and the way back go once round
+round : (last tick : ℕ) → last < 65536 → tick < 65536 → (difference tick last ≡ 0 → ⊥) → difference tick last + difference last tick ≡ 65536
+unfolding difference
+round last tick a b n = omega arith
+
+-- another tick is as far ahead of the last one as behind it exactly where it is half the counter away
+pub half-both-ways : (last tick : ℕ) → last < 65536 → tick < 65536 → (difference tick last ≡ 0 → ⊥)
+    → (difference tick last ≡ difference last tick) ↔ Covers Half (difference tick last)
+half-both-ways last tick a b n = (λ q. omega (arith, round last tick a b n), λ q. omega (arith, round last tick a b n))
