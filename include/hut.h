@@ -181,8 +181,8 @@ struct hut_running hut_open(const uint8_t *plan, size_t plan_bytes, uint16_t fir
 
 /* One tick. `ended` says whether the job ordered last signalled its end: 0 is no, any other byte yes.
  * 0, with the order for the slot that begins; or 37, 32, 30, 36, 33, 31, 34, 35, the first of them that holds.
- * Ticks count modulo 65536, so tick 0 follows tick 65535. The tick 1 after the last one is taken; 0 after it is 30,
- * 2 to 32,767 are 31, 32,768 is 36, and 32,769 to 65,535 are 33. An end signalled with a refused tick is not taken.
+ * Ticks count modulo 65536, so tick 0 follows tick 65535. The tick 1 after the last one taken is the next; 0 after it
+ * is 30, 2 to 32,767 are 31, 32,768 is 36, and 32,769 to 65,535 are 33. No refusal takes the end that came with it.
  * 31, 35 and 36 halt the state and change nothing else in it; the other refusals change nothing at all. */
 struct hut_answer hut_step(struct hut_state *state, uint16_t tick, uint8_t ended);
 

@@ -197,7 +197,7 @@ static void running(void)
     struct hut_answer a = hut_step(&t, 32767, 0);
     expect("P12: 32,767 is 31", bare(a, 31) && a.order == NO);
     expect("31 halts: the next is 32", bare(hut_step(&t, 1, 0), 32));
-    expect("31 and 32 change one byte", differing(&t, &s) == 1);
+    expect("31 changes one byte, and 32 none", differing(&t, &s) == 1);
 
     /* Half the counter away, with an end: it is dropped with its tick, and what is left is what 31 leaves. */
     struct hut_state half = s;

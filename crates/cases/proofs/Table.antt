@@ -10,7 +10,7 @@ use Rattle.basics.specs.Turns.{inTurn, turns}
 use Rattle.basics.specs.Units.{oneMore}
 use Rattle.parts.specs.Marks.{isSet}
 use Rattle.parts.specs.Scan.{sizesOk, byteOk, slotOk, tablesOk, edgesOk, jobOk, jobsOk, unitsOk, endedBefore, predsDone, namedIn, bump, pastHigh, lateLow, mayRun, choiceIn}
-use Rattle.machine.specs.Tick.{difference, tickOf}
+use Rattle.machine.specs.Tick.{difference, caseOf, tickOf}
 use Rattle.machine.specs.Run.{freshHead}
 use Rattle.machine.specs.Machine.{need, _⨾_, tickTest, planOk, runOk, soundOn, endTest, liveTest, bookJob, bookOf, moveOf, freshRun, testOf, orderOf, nextOf, answerOf, stepOn}
 use Rattle.dispatch.specs.State.{freshOf}
@@ -34,5 +34,5 @@ use Rattle.verdict.specs.Inner.{namedTold}
 use Rattle.cases.specs.Table.{EachHolds, table}
 
 pub all-hold : EachHolds table
-unfolding countBelow entriesBefore anyBelow allBelow allOf u16At u32At pick earliest find lowest highest put inTurn turns oneMore freshHead need _⨾_ tickTest planOk runOk soundOn endTest liveTest bookJob bookOf moveOf freshRun testOf orderOf nextOf answerOf stepOn freshOf isSet entries jobsOf edgesOf tablesOf fieldsOf openOf sizesOk byteOk slotOk tablesOk edgesOk jobOk jobsOk unitsOk endedBefore predsDone namedIn bump pastHigh lateLow mayRun choiceIn difference tickOf switchTo nextMode waitsFor ready runs outran slotWith step opening Bad lateJob owed faultOf faultAt scan needsAfter reachesBudget trySwitch switchAt switches searchFrom firstFault hitable·runs rowOf isHigh turn owing hiAt tableHi within countsAnswer goodTimes goodBudgets fieldsAnswer largest rising goodPair bodyAnswer frontAnswer listAnswer walk cyclic edgeIn late·ready lateAt takes unfinished chosen edfAt lateAnswer target move moved lateTable firstUnit firstUnits lateOf tlo thi waits unplaced fits later lotable·pick tablesAt clashIn clashOf tableLo pairOf builtHi mergePlan buildOf outAfter partsAnswer readOf writeOf planfile·outAfter planOf partOf oddEntry tablesAnswer checkOf entriesIn namedTold
+unfolding countBelow entriesBefore anyBelow allBelow allOf u16At u32At pick earliest find lowest highest put inTurn turns oneMore freshHead need _⨾_ tickTest planOk runOk soundOn endTest liveTest bookJob bookOf moveOf freshRun testOf orderOf nextOf answerOf stepOn freshOf isSet entries jobsOf edgesOf tablesOf fieldsOf openOf sizesOk byteOk slotOk tablesOk edgesOk jobOk jobsOk unitsOk endedBefore predsDone namedIn bump pastHigh lateLow mayRun choiceIn difference caseOf tickOf switchTo nextMode waitsFor ready runs outran slotWith step opening Bad lateJob owed faultOf faultAt scan needsAfter reachesBudget trySwitch switchAt switches searchFrom firstFault hitable·runs rowOf isHigh turn owing hiAt tableHi within countsAnswer goodTimes goodBudgets fieldsAnswer largest rising goodPair bodyAnswer frontAnswer listAnswer walk cyclic edgeIn late·ready lateAt takes unfinished chosen edfAt lateAnswer target move moved lateTable firstUnit firstUnits lateOf tlo thi waits unplaced fits later lotable·pick tablesAt clashIn clashOf tableLo pairOf builtHi mergePlan buildOf outAfter partsAnswer readOf writeOf planfile·outAfter planOf partOf oddEntry tablesAnswer checkOf entriesIn namedTold
 all-hold = ((refl, refl), (refl, ((refl, refl), ((refl, refl), ((refl, refl, refl), ((refl, refl, refl), ((refl, refl), ((refl, refl, refl), ((refl, refl), ((refl, refl), ((refl, refl), (refl, (refl, (refl, (refl, (refl, ((refl, refl), tt)))))))))))))))))

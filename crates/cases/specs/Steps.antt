@@ -1,4 +1,4 @@
--- The dispatcher, worked on paper beyond P11 and P12: row 37 part by part, an early end, a cut, a switch, 35, 36, and the most that a count holds.
+-- The dispatcher, worked on paper beyond P11 and P12: row 37 part by part, an early end, a cut, a switch, 35, 36, 33, and the most that a count holds.
 -- Assumes nothing.
 use Prim.Native.Nat.{ℕ}
 use mathlib.Core.Path.{_≡_}

@@ -148,7 +148,7 @@ table =
     ∷ checks listA (1 ∷ 1 ∷ 0 ∷ o ∷ o ∷ []) (0 ∷ 0 ∷ 0 ∷ o ∷ o ∷ []) 10 (some (AtFault (Late 5 0 2)))
     ∷ checks (twoWith 5 (job 0 5 1 1 3) (job 0 3 0 2 2) 0 1) (1 ∷ 1 ∷ 0 ∷ o ∷ o ∷ []) allIdle 12 (some (AtFault (Before 0 1 0 noSwitch)))
     ∷ checks listA (1 ∷ 1 ∷ 0 ∷ 0 ∷ o ∷ []) (1 ∷ 1 ∷ 0 ∷ 0 ∷ 0 ∷ []) 0 none
-    -- P11: past 65535. P12, as request 2026-02 amends it: lost, half the counter away, and stale
+    -- P11: past 65535. P12, as request 2026-02 amends it, and 32,769 beside it: lost, half the counter away, stale, stale
     ∷ steps planA 65535 (step 65535 0 (some 1) 0 ∷ step 0 0 (some 1) 1 ∷ [])
     ∷ steps planA 0 (step 0 0 (some 1) 0 ∷ step 32767 31 none 0 ∷ [])
     ∷ steps planA 0 (step 0 0 (some 1) 0 ∷ step 32768 36 none 0 ∷ [])

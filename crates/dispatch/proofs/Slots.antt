@@ -28,6 +28,7 @@ use Rattle.dispatch.specs.State.{runOf, stateWith, stateOk, freshOf, ste
 use Rattle.machine.specs.Numbers.{numberOf, answerNumber}
 use Rattle.dispatch.specs.Runs.{Given, Each, answersBy, stateBy, answersOf, stateOf, nextTicks, OnlyJobsRefused}
 use Rattle.machine.proofs.Facts.{state-facts}
+use Rattle.machine.proofs.Ticks.{covered-said}
 use Rattle.dispatch.proofs.Did.{soundRun, is-bad, is-halted, is-same, is-half, is-stale, is-lost, has-no-job, is-past, Did, refused, taken, was-idle, was-job, did}
 use Rattle.dispatch.proofs.Sound.{sound-stays, fresh-sound}
 
@@ -44,10 +45,8 @@ refused-number (PastHigh j) h = omega arith
 
 -- the tick after f - 1 is next, also where that is 0 after 65535
 pub next-is-next : (f last : ℕ) → last ≡ (f + 65535) % 65536 → tickOf last (f % 65536) ≡ Next
-unfolding tickOf difference pick
-next-is-next f last h =
-    let d : (f % 65536 + (65536 - last)) % 65536 ≡ 1 = omega arith in
-    rw (d)
+unfolding difference
+next-is-next f last h = covered-said last (f % 65536) Next (omega arith)
 
 module _ (lim : Limits) where
   -- one slot more, modulo L

@@ -48,17 +48,17 @@ module _ (lim : Limits) (p : Plan) (r : Run) (tick : ℕ) (e : Bool) where
   step-halted v h = step-sound v ∙ ap (answerOf lim p r tick e) (stops _ Halted _ (ap not h))
 
   -- what the tick is refused for is the answer, whatever is signalled: an end is dropped with its tick
-  pub step-tick : soundOn lim p (r .head) (r .units) ≡ true → isSet (r .head .halted) ≡ false → (w : Why)
+  pub step-refuses-tick : soundOn lim p (r .head) (r .units) ≡ true → isSet (r .head .halted) ≡ false → (w : Why)
       → tickTest (tickOf (r .head .last) tick) ≡ Refuse w → stepOn lim p r tick e ≡ says (No w) (refusedRun w r)
   unfolding answerOf liveTest _⨾_
-  step-tick v h w q =
+  step-refuses-tick v h w q =
       step-sound v ∙ ap (answerOf lim p r tick e) (goes-on _ Halted _ (ap not h) ∙ ap (λ t. t ⨾ endTest lim (p .jobs) (r .head .ordered) (r .units) e) q)
 
   -- half the counter away: 36, and the halted mark is all that changes
   pub step-half : soundOn lim p (r .head) (r .units) ≡ true → isSet (r .head .halted) ≡ false
       → difference tick (r .head .last) ≡ 32768 → stepOn lim p r tick e ≡ says (No HalfAway) (haltOf r)
   unfolding tickTest pick
-  step-half v h q = step-tick v h HalfAway (ap tickTest (covered-said (r .head .last) tick Half q))
+  step-half v h q = step-refuses-tick v h HalfAway (ap tickTest (covered-said (r .head .last) tick Half q))
 
 -- booked, moved on and ordered, one after the other
 pub next-is : (lim : Limits) (p : Plan) (r b : Run) (h : Head) (us ds cs : List ℕ) (tick : ℕ) (e : Bool) (x : ℕ) (t : Turned)

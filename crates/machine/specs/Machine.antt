@@ -1,4 +1,4 @@
--- Document 01, 'The dispatcher': a function of a plan, which never changes, a run, a tick and a mark, to an answer and a run.
+-- Document 01, 'The dispatcher', with 36 of request 2026-02: a function of a plan, which never changes, a run, a tick and a mark, to an answer and a run.
 -- Assumes nothing.
 use Prim.Native.Nat.{ℕ, _+_}
 use mathlib.Core.Bool.{Bool, not, _&&_, _||_}

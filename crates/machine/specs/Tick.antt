@@ -1,4 +1,4 @@
--- What a tick says: the one place where the tick difference decides.
+-- What a tick says, as request 2026-02 amends document 01: the one place where the tick difference decides.
 -- Assumes nothing.
 use Prim.Native.Nat.{ℕ, _+_, _-_, _%_, _≤_}
 use mathlib.Core.Path.{_≡_}
@@ -12,13 +12,17 @@ unfoldable pub difference : ℕ → ℕ → ℕ
 difference tick last = (tick + (65536 - last)) % 65536
 
 -- 0 is the same tick, 1 the next slot, 2 to 32,767 lost ticks, 32,768 half the counter away, the rest stale
-unfoldable pub tickOf : ℕ → ℕ → Tick
-tickOf last tick =
-    pick (eqb (difference tick last) 0) Same
-    (pick (eqb (difference tick last) 1) Next
-    (pick (ltb (difference tick last) 32768) Lost
-    (pick (eqb (difference tick last) 32768) Half
+unfoldable pub caseOf : ℕ → Tick
+caseOf d =
+    pick (eqb d 0) Same
+    (pick (eqb d 1) Next
+    (pick (ltb d 32768) Lost
+    (pick (eqb d 32768) Half
     Stale)))
+
+-- the difference alone decides
+unfoldable pub tickOf : ℕ → ℕ → Tick
+tickOf last tick = caseOf (difference tick last)
 
 -- the differences that each case covers
 abbrev pub Covers : Tick → ℕ → Type 0

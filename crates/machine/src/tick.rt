@@ -10,7 +10,7 @@ pub enum Tick {
     Stale,
 }
 
-// Half the counter: as far ahead as behind, so nobody knows which.
+// Half the counter: as far ahead as behind, so nobody knows which way.
 const HALF: u16 = 32768;
 
 // The difference modulo 65536 alone decides.

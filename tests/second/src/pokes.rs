@@ -134,7 +134,7 @@ fn at_the_edge_of_sight(script: &mut Script, random: &mut Random) {
     };
     script.ask(&format!("poke {field} {index} {}", random.pick(&values)));
     next(script, random);
-    // 37 comes first, whatever the tick
+    // where this is 37, that comes first, whatever the tick
     runs::step(script, random, ENDS);
 }
 
