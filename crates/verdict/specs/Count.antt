@@ -1,10 +1,12 @@
 -- Counting: how many entries of a job stand in a table before a slot. The one home of counting.
 -- Assumes nothing.
-use Prim.Native.Nat.{ℕ, min}
+use Prim.Native.Nat.{ℕ, _<_, min}
+use mathlib.Core.Path.{_≡_}
 use mathlib.Core.List.{List}
 use lib.ListN.{length, getD}
 use Rattle.basics.specs.Below.{entriesBefore}
 use Rattle.basics.specs.Marks.{idle}
+use Rattle.basics.specs.Units.{unitsOf}
 
 -- what a table holds in a slot; past its end, idle
 abbrev pub entryAt : List ℕ → ℕ → ℕ
@@ -13,3 +15,8 @@ entryAt table t = getD table t idle
 -- the entries that equal j in the slots before t; a table ends where its bytes end, so that none stands past them
 unfoldable pub entriesIn : List ℕ → ℕ → ℕ → ℕ
 entriesIn table j t = entriesBefore (entryAt table) j (min t (length table))
+
+-- the running form: a count for each of n jobs, its entries before t
+pub record Counted (n : ℕ) (table counts : List ℕ) (t : ℕ) : Type 0 where
+  pub long : length counts ≡ n
+  pub each : (j : ℕ) → j < n → unitsOf counts j ≡ entriesIn table j t

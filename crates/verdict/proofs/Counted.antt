@@ -1,0 +1,71 @@
+-- Laws of the running form: its start, one entry more, and that a table and a slot settle it.
+-- Assumes nothing.
+use mathlib.Core.List.{List}
+use mathlib.Core.Path.{_∙_, _≡_, ap, sym}
+use Prim.Native.Nat.{_+_, _<_, _≤_, min, ℕ}
+use native.Mathlib.Decide.{ℕ-discrete}
+use native.Mathlib.Omega.{arith}
+use lib.ListN.{length, length-replicate, length-set, replicate, set}
+use lib.Seq.{ext-getD, getD-set-other, getD-set-same}
+use Rattle.basics.proofs.At.{zeros-at}
+use Rattle.basics.proofs.Below.{entries-zero}
+use Rattle.basics.specs.Below.{entriesBefore}
+use Rattle.basics.specs.Units.{unitsOf}
+use Rattle.verdict.proofs.Entries.{count-else, count-here, entries-most}
+use Rattle.verdict.specs.Count.{Counted, entriesIn, entryAt}
+
+-- one slot more of the count itself
+module _ (table : List ℕ) (t j : ℕ) where
+  pub in-most : entriesIn table j t ≤ t
+  unfolding entriesIn
+  in-most = omega (arith, entries-most table j (min t (length table)))
+
+  pub in-past : length table ≤ t → entriesIn table j t ≡ entriesIn table j (t + 1)
+  unfolding entriesIn
+  in-past h = ap (entriesBefore (entryAt table) j) (let e : min t (length table) ≡ min (t + 1) (length table) = omega arith in e)
+
+  module _ (h : t < length table) where
+    within : entriesIn table j t ≡ entriesBefore (entryAt table) j t
+    unfolding entriesIn
+    within = ap (entriesBefore (entryAt table) j) (let e : min t (length table) ≡ t = omega arith in e)
+
+    beyond : entriesBefore (entryAt table) j (t + 1) ≡ entriesIn table j (t + 1)
+    unfolding entriesIn
+    beyond = ap (entriesBefore (entryAt table) j) (let e : t + 1 ≡ min (t + 1) (length table) = omega arith in e)
+
+    pub in-here : entryAt table t ≡ j → entriesIn table j t + 1 ≡ entriesIn table j (t + 1)
+    in-here e = count-here table j t (entriesIn table j t) within e ∙ beyond
+
+    pub in-else : ¬ (entryAt table t ≡ j) → entriesIn table j t ≡ entriesIn table j (t + 1)
+    in-else e = count-else table j t (entriesIn table j t) within e ∙ beyond
+
+-- before slot 0 no job has an entry
+pub counted-first : (n : ℕ) (table : List ℕ) → Counted n table (replicate n 0) 0
+unfolding entriesIn
+counted-first n table = record {
+  long = length-replicate {A = ℕ} n 0;
+  each = λ j h. zeros-at n j ∙ sym (entries-zero (entryAt table) j) ∙ ap (entriesBefore (entryAt table) j) (let e : 0 ≡ min 0 (length table) = omega arith in e);
+}
+
+module _ (n : ℕ) (table counts : List ℕ) (t : ℕ) (now : Counted n table counts t) where
+  pub counted-past : length table ≤ t → Counted n table counts (t + 1)
+  counted-past h = record { long = now .long; each = λ j b. now .each j b ∙ in-past table t j h }
+
+  pub counted-other : t < length table → n ≤ entryAt table t → Counted n table counts (t + 1)
+  counted-other h o = record { long = now .long; each = λ j b. now .each j b ∙ in-else table t j h (λ e. absurd (omega (arith, e))) }
+
+  pub counted-here : t < length table → (k : ℕ) → k ≡ entryAt table t → k < n → Counted n table (set counts k (unitsOf counts k + 1)) (t + 1)
+  counted-here h k at l = record { long = length-set counts k _ ∙ now .long; each = λ j b. go j b (ℕ-discrete j k) }
+    where
+      go : (j : ℕ) → j < n → Dec (j ≡ k) → unitsOf (set counts k (unitsOf counts k + 1)) j ≡ entriesIn table j (t + 1)
+      go j b (yes p) = ap (unitsOf (set counts k (unitsOf counts k + 1))) p ∙ getD-set-same counts k (unitsOf counts k + 1) 0 (omega (arith, now .long))
+          ∙ ap (λ (x : ℕ). x + 1) (ap (unitsOf counts) (sym p) ∙ now .each j b) ∙ in-here table t j h (sym (p ∙ at))
+      go j b (no p) = getD-set-other counts k j (unitsOf counts k + 1) 0 p ∙ now .each j b ∙ in-else table t j h (λ e. p (sym e ∙ sym at))
+
+-- a table and a slot settle the counts
+pub settled : (n : ℕ) (table a b : List ℕ) (t : ℕ) → Counted n table a t → Counted n table b t → a ≡ b
+settled n table a b t h g = ext-getD 0 a b (h .long ∙ sym (g .long)) (λ j l. h .each j (omega (arith, h .long)) ∙ sym (g .each j (omega (arith, h .long))))
+
+-- so moving on past the table's end changes nothing
+pub stays-past : (n : ℕ) (table a b : List ℕ) (t : ℕ) → length table ≤ t → Counted n table a t → Counted n table b (t + 1) → b ≡ a
+stays-past n table a b t p h g = settled n table b a (t + 1) g (counted-past n table a t h p)

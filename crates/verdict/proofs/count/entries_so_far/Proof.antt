@@ -1,0 +1,26 @@
+-- `entries_so_far` meets its contract.
+-- Assumes nothing.
+use native.Mathlib.Omega.{arith}
+use borrow.Author.Needs.{needs}
+use Rattle.verdict.proofs.count.entries_so_far.Statement.{statement}
+use Rattle.verdict.proofs.count.entries_so_far.Tie as tie
+
+mul-result : tie.Need-mul-result
+mul-result c = search needs
+
+element-copy-out-result : tie.Need-element-copy-out-result
+element-copy-out-result c = search needs
+
+returns : tie.Need-returns
+returns c = c .before .before .before .pre .each (c .before .before .before .args .job) (omega arith)
+
+entries-before-requires : tie.Need-entries-before-requires
+entries-before-requires c κs = search needs
+
+returns-2 : tie.Need-returns-2
+returns-2 c = c .entries-before .ensures
+
+pub entries-so-far-spec : {M : Type 1} → statement M
+entries-so-far-spec =
+    tie.close
+    (tie.spec mul-result element-copy-out-result returns entries-before-requires returns-2)

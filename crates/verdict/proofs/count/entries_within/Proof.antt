@@ -1,0 +1,67 @@
+-- `entries_within` meets its contract: the count so far, and that it is no more than the entries seen.
+-- Assumes nothing.
+use mathlib.Core.Logic.{inl, inr}
+use mathlib.Core.Path.{_∙_, _≡_, ap, sym}
+use Prim.Native.Nat.{_+_, _-_, _≤_}
+use native.Mathlib.Omega.{arith}
+use borrow.Author.Needs.{needs}
+use Rattle.basics.proofs.At.{getD-any}
+use Rattle.basics.specs.Below.{entriesBefore}
+use Rattle.basics.specs.Marks.{idle}
+use Rattle.verdict.proofs.Entries.{count-else, count-here}
+use Rattle.verdict.specs.Count.{entryAt}
+use Rattle.verdict.proofs.count.entries_within.Statement.{statement}
+use Rattle.verdict.proofs.count.entries_within.Tie as tie
+
+abbrev Inv-loop : tie.InvT-loop
+Inv-loop table job from to count₀ t₀ count t = (t ≤ to) × (from + count ≤ t) × (count + entriesBefore (entryAt table) job from ≡ entriesBefore (entryAt table) job t)
+
+abbrev μ-loop : tie.MeasureT-loop
+μ-loop table job from to count₀ t₀ count t = to - t
+
+loop-holds : tie.Need-loop-holds Inv-loop μ-loop
+loop-holds c = (omega arith, omega arith, omega arith)
+
+shared-slice-read-if1 : tie.Need-shared-slice-read-if1 Inv-loop μ-loop
+shared-slice-read-if1 c = omega (arith, c .before .loop-test .taken)
+
+add-count : tie.Need-add-count Inv-loop μ-loop
+add-count c = omega (arith, c .before .before .loop-test .taken)
+
+add-t : tie.Need-add-t Inv-loop μ-loop
+add-t c = omega arith
+
+loop-less : tie.Need-loop-less Inv-loop μ-loop
+loop-less c = omega arith
+
+loop-again : tie.Need-loop-again Inv-loop μ-loop
+loop-again c = let a = c .before .before .before .before .before .args in
+    let o = c .before .before .before .loop in
+    let x = getD-any (a .table .now) (o .t) 0 idle (omega (arith, c .before .before .loop-test .taken)) in
+    elim (c .if1 .came) [
+      | inl w ↦ (omega arith, omega arith, omega (arith, w .1, count-here (a .table .now) (a .job) (o .t) _ (o .inv .2) (sym x ∙ w .0 .taken)))
+      | inr w ↦ (omega arith, omega arith, omega (arith, w .1, count-else (a .table .now) (a .job) (o .t) _ (o .inv .2) (λ z. w .0 .left (x ∙ z))))
+    ]
+
+wide-requires : tie.Need-wide-requires Inv-loop μ-loop
+wide-requires c κs = search needs
+
+returns : tie.Need-returns Inv-loop μ-loop
+returns c = let a = c .before .before .before .before .args in
+    let o = c .before .before .loop in
+    omega (arith, c .wide .ensures .0, o .inv .2, ap (entriesBefore (entryAt (a .table .now)) (a .job)) (let e : o .t ≡ a .to = omega (arith, c .before .loop-test .left, o .inv .0) in e))
+
+pub entries-within-spec : {M : Type 1} → statement M
+entries-within-spec =
+    tie.close
+    (tie.spec
+    Inv-loop
+    μ-loop
+    loop-holds
+    shared-slice-read-if1
+    add-count
+    add-t
+    loop-less
+    loop-again
+    wide-requires
+    returns)
