@@ -12,15 +12,16 @@ ghost use Rattle.joblist.specs.Cycle.{Named};
 ghost use Rattle.frame.specs.Execution.{state};
 ghost use Rattle.frame.specs.Search.{scan};
 ghost use Rattle.frame.specs.TwoLevels.{needsHI, eachSwitch, searchTwo};
-ghost use Rattle.verdict.specs.Count.{entryAt, entriesIn};
+ghost use Rattle.verdict.specs.Count.{entryAt, entriesIn, Counted};
 ghost use Rattle.verdict.specs.FrameOf.{frameWith};
 ghost use Rattle.verdict.specs.Inner.{told, chainOf, edgeAt, square, switchesAt, Steady, Rising};
 use crate::PAIRS;
 use crate::Search;
 use crate::Verdict;
-use crate::count::entries_before;
+use crate::count::entries_so_far;
 use crate::count::entry_at;
 use crate::count::lower;
+use crate::count::move_on;
 use crate::slot::fault_at;
 use crate::slot::runs_at;
 use joblist::MOST_JOBS;
@@ -98,13 +99,19 @@ fn needs_at_first(list: &[u8], n: usize) -> [usize; MOST_JOBS]
 }
 
 // The units that each job has had before a slot, where each uses CLO and none has switched.
-fn units_before(list: &[u8], n: usize, lo: &[u8], slot: usize) -> [usize; MOST_JOBS]
-    requires { ⌜ (n ≤ firstEdition .jobs) × (jobAt n ≤ length (now list)) ⌝ }
+fn units_before(
+    list: &[u8],
+    n: usize,
+    lo: &[u8],
+    counts: &[usize; MOST_JOBS],
+    slot: usize,
+) -> [usize; MOST_JOBS]
+    requires { ⌜ (n ≤ firstEdition .jobs) × (jobAt n ≤ length (now list)) × Counted (firstEdition .jobs) (now lo) (now counts) slot ⌝ }
     ensures { λ r. ⌜ ((i : ℕ) → i < n → unitsOf r i ≡ min (ordinary (now (list .entry)) i) (entriesIn (now (lo .entry)) i slot)) ⌝ }
 {
     let mut had = [0usize; MOST_JOBS];
     for i in 0..n {
-        had[i] = lower(ordinary_of(list, i), entries_before(lo, i, slot));
+        had[i] = lower(ordinary_of(list, i), entries_so_far(counts, lo, i, slot));
     }
     had
 }
@@ -135,8 +142,15 @@ fn needs_after(list: &[u8], n: usize, had: &[usize; MOST_JOBS], k: usize) -> [us
 }
 
 // Whether slot t has a switch: its entry j is a high job with CHI > CLO at its CLO-th unit.
-fn switches_at(list: &[u8], n: usize, lo: &[u8], t: usize, j: usize) -> bool
-    requires { ⌜ (jobAt n ≤ length (now list)) × (t < firstEdition .slots) ⌝ }
+fn switches_at(
+    list: &[u8],
+    n: usize,
+    lo: &[u8],
+    counts: &[usize; MOST_JOBS],
+    t: usize,
+    j: usize,
+) -> bool
+    requires { ⌜ (jobAt n ≤ length (now list)) × (t < firstEdition .slots) × Counted (firstEdition .jobs) (now lo) (now counts) t ⌝ }
     ensures { λ r. ⌜ r ≡ switchesAt (now (list .entry)) n (now (lo .entry)) t j ⌝ }
 {
     if n <= j {
@@ -149,10 +163,10 @@ fn switches_at(list: &[u8], n: usize, lo: &[u8], t: usize, j: usize) -> bool
     if high_of(list, j) <= o {
         return false;
     }
-    entries_before(lo, j, t) + 1 == o
+    entries_so_far(counts, lo, j, t) + 1 == o
 }
 
-// Each switch, by rising slot: table HI from the slot after it.
+// Each switch, by rising slot: table HI from the slot after it. The entries of table LO are counted once, as the slots go by.
 fn switches_from(
     list: &[u8],
     n: usize,
@@ -164,14 +178,17 @@ fn switches_from(
     requires { ⌜ (n ≤ firstEdition .jobs) × (jobAt n ≤ length (now list)) × (l ≤ firstEdition .slots) × (l ≤ length (now lo)) × Rising (now list) n ⌝ }
     ensures { λ r. ⌜ r ≡ told (eachSwitch (frameWith (now (list .entry)) n l (now (lo .entry)) (now (hi .entry)) (edgeAt (now (before .entry)))) l 0 (replicate n 0)) ⌝ }
 {
+    let mut counts = [0usize; MOST_JOBS];
     let mut t: usize = 0;
     loop {
         if l <= t {
             break Search::Fine;
         }
         let j = entry_at(lo, t);
-        if switches_at(list, n, lo, t, j) {
-            let had = units_before(list, n, lo, t + 1);
+        let switches = switches_at(list, n, lo, &counts, t, j);
+        move_on(&mut counts, lo, t);
+        if switches {
+            let had = units_before(list, n, lo, &counts, t + 1);
             let need = needs_after(list, n, &had, j);
             let f = scan_from(list, n, before, lo, hi, had, &need, 1, l, t + 1, t);
             let Search::Fine = f else {

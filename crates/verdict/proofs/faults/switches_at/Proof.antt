@@ -25,14 +25,14 @@ high-of-requires c κs = search needs
 returns-3 : tie.Need-returns-3
 returns-3 c = let a = c .before .before .before .before .before .before .before .before .args in switch-flat (a .list .now) (a .n) (a .lo .now) (a .t) (a .j) (omega (arith, c .before .high-of .ensures .0, c .before .before .ordinary-of .ensures .0, c .if3 .taken))
 
-entries-before-requires : tie.Need-entries-before-requires
-entries-before-requires c κs = search needs
+entries-so-far-requires : tie.Need-entries-so-far-requires
+entries-so-far-requires c κs = search needs
 
 add-result : tie.Need-add-result
-add-result c = let a = c .before .before .before .before .before .before .before .before .before .args in omega (arith, c .entries-before .ensures, entries-in-most (a .list .now) (a .n) (a .lo .now) (a .t) (a .j))
+add-result c = let a = c .before .before .before .before .before .before .before .before .before .args in omega (arith, c .entries-so-far .ensures, entries-in-most (a .list .now) (a .n) (a .lo .now) (a .t) (a .j))
 
 returns-4 : tie.Need-returns-4
-returns-4 c = let a = c .before .before .before .before .before .before .before .before .before .args in switch-count (a .list .now) (a .n) (a .lo .now) (a .t) (a .j) (c .before .before .before .before .before .before .if1 .left) (sym (c .before .before .before .before .before .level-of .ensures .0) ∙ c .before .before .before .before .if2 .left) (omega (arith, c .before .before .high-of .ensures .0, c .before .before .before .ordinary-of .ensures .0, c .before .if3 .left)) (c .entries-before .result) (c .before .before .before .ordinary-of .result) (c .entries-before .ensures) (c .before .before .before .ordinary-of .ensures .0)
+returns-4 c = let a = c .before .before .before .before .before .before .before .before .before .args in switch-count (a .list .now) (a .n) (a .lo .now) (a .t) (a .j) (c .before .before .before .before .before .before .if1 .left) (sym (c .before .before .before .before .before .level-of .ensures .0) ∙ c .before .before .before .before .if2 .left) (omega (arith, c .before .before .high-of .ensures .0, c .before .before .before .ordinary-of .ensures .0, c .before .if3 .left)) (c .entries-so-far .result) (c .before .before .before .ordinary-of .result) (c .entries-so-far .ensures) (c .before .before .before .ordinary-of .ensures .0)
 
 pub switches-at-spec : {M : Type 1} → statement M
 switches-at-spec =
@@ -44,6 +44,6 @@ switches-at-spec =
     ordinary-of-requires
     high-of-requires
     returns-3
-    entries-before-requires
+    entries-so-far-requires
     add-result
     returns-4)

@@ -14,10 +14,10 @@ use Rattle.verdict.proofs.faults.units_before.Statement.{statement}
 use Rattle.verdict.proofs.faults.units_before.Tie as tie
 
 abbrev Inv-loop : tie.InvT-loop
-Inv-loop list n lo slot had₀ i₀ had i = (i ≤ n) × (length had ≡ firstEdition .jobs) × ((k : ℕ) → k < i → unitsOf had k ≡ min (ordinary list k) (entriesIn lo k slot))
+Inv-loop list n lo counts slot had₀ i₀ had i = (i ≤ n) × (length had ≡ firstEdition .jobs) × ((k : ℕ) → k < i → unitsOf had k ≡ min (ordinary list k) (entriesIn lo k slot))
 
 abbrev μ-loop : tie.MeasureT-loop
-μ-loop list n lo slot had₀ i₀ had i = n - i
+μ-loop list n lo counts slot had₀ i₀ had i = n - i
 
 loop-holds : tie.Need-loop-holds Inv-loop μ-loop
 loop-holds c = (omega arith, refl, λ k h. absurd (omega arith))
@@ -25,8 +25,8 @@ loop-holds c = (omega arith, refl, λ k h. absurd (omega arith))
 ordinary-of-requires : tie.Need-ordinary-of-requires Inv-loop μ-loop
 ordinary-of-requires c κs = omega arith
 
-entries-before-requires : tie.Need-entries-before-requires Inv-loop μ-loop
-entries-before-requires c κs = search needs
+entries-so-far-requires : tie.Need-entries-so-far-requires Inv-loop μ-loop
+entries-so-far-requires c κs = search needs
 
 lower-requires : tie.Need-lower-requires Inv-loop μ-loop
 lower-requires c κs = search needs
@@ -49,7 +49,7 @@ loop-again c = let a = c .before .before .before .before .before .before .before
       omega arith,
       simp length-set (o .inv .1),
       fill-more (o .had) (o .i) (c .lower .result) (λ k. min (ordinary (a .list .now) k) (entriesIn (a .lo .now) k (a .slot))) (omega arith) (o .inv .2)
-          (c .lower .ensures ∙ ap₂ min (c .before .before .ordinary-of .ensures .0) (c .before .entries-before .ensures)),
+          (c .lower .ensures ∙ ap₂ min (c .before .before .ordinary-of .ensures .0) (c .before .entries-so-far .ensures)),
     )
 
 returns : tie.Need-returns Inv-loop μ-loop
@@ -63,7 +63,7 @@ units-before-spec =
     μ-loop
     loop-holds
     ordinary-of-requires
-    entries-before-requires
+    entries-so-far-requires
     lower-requires
     mul-had
     array-write-had
