@@ -11,33 +11,22 @@ use Rattle.basics.proofs.At.{zeros-at}
 use Rattle.basics.proofs.Below.{entries-zero}
 use Rattle.basics.specs.Below.{entriesBefore}
 use Rattle.basics.specs.Units.{unitsOf}
-use Rattle.verdict.proofs.Entries.{count-else, count-here, entries-most}
+use Rattle.verdict.proofs.Entries.{count-else, count-here}
+use Rattle.verdict.proofs.Switches.{entries-all}
 use Rattle.verdict.specs.Count.{Counted, entriesIn, entryAt}
 
 -- one slot more of the count itself
 module _ (table : List ℕ) (t j : ℕ) where
-  pub in-most : entriesIn table j t ≤ t
-  unfolding entriesIn
-  in-most = omega (arith, entries-most table j (min t (length table)))
-
   pub in-past : length table ≤ t → entriesIn table j t ≡ entriesIn table j (t + 1)
   unfolding entriesIn
   in-past h = ap (entriesBefore (entryAt table) j) (let e : min t (length table) ≡ min (t + 1) (length table) = omega arith in e)
 
   module _ (h : t < length table) where
-    within : entriesIn table j t ≡ entriesBefore (entryAt table) j t
-    unfolding entriesIn
-    within = ap (entriesBefore (entryAt table) j) (let e : min t (length table) ≡ t = omega arith in e)
-
-    beyond : entriesBefore (entryAt table) j (t + 1) ≡ entriesIn table j (t + 1)
-    unfolding entriesIn
-    beyond = ap (entriesBefore (entryAt table) j) (let e : t + 1 ≡ min (t + 1) (length table) = omega arith in e)
-
     pub in-here : entryAt table t ≡ j → entriesIn table j t + 1 ≡ entriesIn table j (t + 1)
-    in-here e = count-here table j t (entriesIn table j t) within e ∙ beyond
+    in-here e = count-here table j t (entriesIn table j t) (entries-all table j t (omega arith)) e ∙ sym (entries-all table j (t + 1) (omega arith))
 
     pub in-else : ¬ (entryAt table t ≡ j) → entriesIn table j t ≡ entriesIn table j (t + 1)
-    in-else e = count-else table j t (entriesIn table j t) within e ∙ beyond
+    in-else e = count-else table j t (entriesIn table j t) (entries-all table j t (omega arith)) e ∙ sym (entries-all table j (t + 1) (omega arith))
 
 -- before slot 0 no job has an entry
 pub counted-first : (n : ℕ) (table : List ℕ) → Counted n table (replicate n 0) 0

@@ -1,11 +1,13 @@
 -- `move_on` meets its contract: the entry's job has one more, and past the end nobody.
 -- Assumes nothing.
-use mathlib.Core.Path.{_∙_, sym}
+use mathlib.Core.List.{[]}
+use mathlib.Core.Path.{_∙_}
 use native.Mathlib.Omega.{arith}
 use borrow.Author.Needs.{needs}
 use Rattle.basics.proofs.At.{getD-any}
 use Rattle.basics.specs.Marks.{idle}
-use Rattle.verdict.proofs.Counted.{counted-here, counted-other, counted-past, in-most}
+use Rattle.verdict.proofs.Counted.{counted-here, counted-other, counted-past}
+use Rattle.verdict.proofs.Named.{entries-in-most}
 use Rattle.verdict.proofs.count.move_on.Statement.{statement}
 use Rattle.verdict.proofs.count.move_on.Tie as tie
 
@@ -25,7 +27,7 @@ add-counts : tie.Need-add-counts
 add-counts c = let a = c .before .before .before .before .before .before .args in
     let p = c .before .before .before .before .before .before .pre in
     let j = c .before .before .wide .result in
-    omega (arith, p .each j (omega arith), in-most (a .table .now) (a .t) j)
+    omega (arith, p .each j (omega arith), entries-in-most [] 0 (a .table .now) (a .t) j)
 
 mul-counts-2 : tie.Need-mul-counts-2
 mul-counts-2 c = search needs
