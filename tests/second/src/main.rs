@@ -1,10 +1,11 @@
-//! The second program: document 01 and requests 2026-01 and 2026-02 of document 02 once more, in
+//! The second program: document 01 and requests 2026-01 to 2026-03 of document 02 once more, in
 //! plain code that shares nothing with the proved code, to compare that with.
 
 mod ask;
 mod build;
 mod check;
 mod compare;
+mod count;
 mod cuts;
 mod damage;
 mod desk;
