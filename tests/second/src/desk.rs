@@ -11,6 +11,7 @@ use std::slice::from_mut;
 
 use crate::build;
 use crate::check;
+use crate::count;
 use crate::dispatch;
 use crate::fields::{bytes, hex, mark, number, word};
 use crate::list::{self, MOST_JOBS};
@@ -65,6 +66,10 @@ impl Desk {
             [b"poke", field, index, value] => {
                 poke(&mut self.state, field, word(index)?.into(), word(value)?)?;
                 Some(format!("0{}", shown(&self.state)))
+            }
+            [b"count", table, job, slot] => {
+                let count = count::before(&bytes(table)?, word(job)?.into(), word(slot)?.into());
+                Some(format!("0 count={count}"))
             }
             _ => self.store.answer(&fields),
         }

@@ -1,6 +1,7 @@
 //! Requests to the log: stores that are filled, hurt, too small, too large, and cut in an append.
 
 use crate::ask;
+use crate::counts;
 use crate::kinds;
 use crate::log::{self, MOST_STORE};
 use crate::random::Random;
@@ -162,13 +163,15 @@ fn at_the_limits(script: &mut Script, random: &mut Random) {
     }
 }
 
-/// The store is the log's alone, and the state the dispatcher's; neither minds an unreadable line.
+/// The store is the log's alone, and the state the dispatcher's; neither minds a count, nor an
+/// unreadable line.
 fn beside_the_dispatcher(script: &mut Script, random: &mut Random) {
     runs::open_accepted(script, random);
     filled(script, random, 150);
     for _ in 0..2 {
         runs::step(script, random, 30);
         another(script, random);
+        counts::request(script, random);
         unreadable::request(script, random);
         runs::step(script, random, 30);
     }

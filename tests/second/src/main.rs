@@ -1,10 +1,12 @@
-//! The second program: document 01 and requests 2026-01 and 2026-02 of document 02 once more, in
+//! The second program: document 01 and requests 2026-01 to 2026-03 of document 02 once more, in
 //! plain code that shares nothing with the proved code, to compare that with.
 
 mod ask;
 mod build;
 mod check;
 mod compare;
+mod count;
+mod counts;
 mod cuts;
 mod damage;
 mod desk;
@@ -19,6 +21,7 @@ mod log;
 mod logs;
 mod plan;
 mod pokes;
+mod question;
 mod random;
 mod refusal;
 mod requests;
@@ -41,6 +44,7 @@ second vectors REQUESTS ANSWERS                  the cases worked on paper
 second executions SEED COUNT REQUESTS ANSWERS    small lists, every execution tried
 second requests SEED COUNT REQUESTS ANSWERS      requests of every kind
 second cuts SEED COUNT REQUESTS ANSWERS          appends to the log, cut short at every byte
+second counts SEED COUNT REQUESTS ANSWERS        entries of a job counted, in tables of all lengths
     each writes requests and the answers that they should get to the two files, says what came,
     and fails where this program is at odds with itself or some kind never came
 second answers                                   answers the requests on standard input
@@ -69,6 +73,9 @@ fn command(words: &[&str]) -> Result<(), String> {
         }
         ["cuts", seed, count, requests, answers] => {
             save(cuts::make(number(seed)?, number(count)? as usize), requests, answers)
+        }
+        ["counts", seed, count, requests, answers] => {
+            save(counts::make(number(seed)?, number(count)? as usize), requests, answers)
         }
         ["answers"] => answer().map_err(|error| error.to_string()),
         ["compare", ref files @ ..] if !files.is_empty() && files.len() % 3 == 0 => {

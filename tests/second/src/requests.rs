@@ -1,6 +1,7 @@
 //! Makes requests of every kind, with what they should answer. How a line is read, and what the
 //! protocol leaves open, stands in `desk`.
 
+use crate::counts;
 use crate::damage;
 use crate::desk::{LENT, MOST_LINE, MOST_ROOM, UNREADABLE};
 use crate::fields::{hex, MOST_BYTES};
@@ -22,8 +23,10 @@ const NUMBERS: [&str; 34] = [
     UNREADABLE,
 ];
 
-/// The answers that some words must get besides: the log's, and to its appends those of the reader.
-const OF_THE_LOG: [(&[&str], &[&str]); 7] = [
+/// The answers that some words must get besides: the count's, the log's, and to appends those of
+/// the reader.
+const OF_WORDS: [(&[&str], &[&str]); 8] = [
+    (&["count"], &["0", UNREADABLE]),
     (&["append", "cut"], &logs::REFUSALS),
     (&["append"], &["0", "50", "52", UNREADABLE]),
     (&["cut"], &["0", "50", "52", UNREADABLE]),
@@ -66,7 +69,7 @@ fn all_came(script: &Script) -> Result<(), String> {
             outcome = Err(format!("never came: {what}"));
         }
     };
-    for (words, numbers) in [(&[][..], &NUMBERS[..])].into_iter().chain(OF_THE_LOG) {
+    for (words, numbers) in [(&[][..], &NUMBERS[..])].into_iter().chain(OF_WORDS) {
         for number in numbers {
             must_come(script.came(words, number), &[&[*number], words].concat().join(" "));
         }
@@ -82,7 +85,7 @@ fn all_came(script: &Script) -> Result<(), String> {
 }
 
 fn scene(script: &mut Script, random: &mut Random) {
-    match random.below(106) {
+    match random.below(108) {
         0..14 => script.ask(&format!("list {}", hex(&list_bytes(random)))),
         14..34 => check_request(script, random),
         34..44 => write_request(script, random),
@@ -91,6 +94,7 @@ fn scene(script: &mut Script, random: &mut Random) {
         82..89 => unreadable::request(script, random),
         89..93 => runs::run(script, random),
         93..100 => pokes::poked_run(script, random),
+        100..102 => counts::request(script, random),
         _ => logs::scene(script, random),
     }
 }
@@ -200,6 +204,7 @@ fn longest_lines(script: &mut Script) {
     let bytes = hex(&[LENT; MOST_BYTES]);
     script.ask(&format!("list {bytes}"));
     script.ask_unreadable(format!("list {bytes}aa").as_bytes());
+    script.ask_unreadable(format!("count {bytes}aa {LENT} 1").as_bytes());
     script.ask(&format!("check {bytes} {bytes} {bytes}"));
     let zeros = "0".repeat(MOST_LINE - "step 1 0".len());
     script.ask(&format!("step {zeros}1 0"));

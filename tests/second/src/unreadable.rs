@@ -7,7 +7,7 @@ use crate::random::Random;
 use crate::script::Script;
 
 /// Lines with one thing wrong each.
-const WRONG: [&str; 96] = [
+const WRONG: [&str; 122] = [
     "",
     " ",
     "?",
@@ -104,11 +104,37 @@ const WRONG: [&str; 96] = [
     "peek 70000 1",
     "peek - 0",
     "peek 0 -",
+    "count",
+    "count ",
+    "count 00",
+    "count 00 0",
+    "count 00 0 ",
+    "count 00  0",
+    "count  0 0",
+    "count 00 0 0 0",
+    "count 00 0 0 ",
+    " count 00 0 0",
+    "counts 00 0 0",
+    "Count 00 0 0",
+    "count 0 0 0",
+    "count 000 0 0",
+    "count 0A 10 1",
+    "count 0g 0 0",
+    "count 0x00 0 0",
+    "count -- 0 0",
+    "count 00 65536 1",
+    "count 00 0 65536",
+    "count 00 4294967296 1",
+    "count 00 0 18446744073709551616",
+    "count 00 -1 1",
+    "count 00 +0 1",
+    "count 00 0 -",
+    "count 00 ff 1",
 ];
 
 /// Odd, and to be read all the same. The index of a single field is 0, however it is written. None
 /// changes the log's store.
-const ODD: [&str; 12] = [
+const ODD: [&str; 15] = [
     "list -",
     "check - - -",
     "build 00 004096",
@@ -121,6 +147,9 @@ const ODD: [&str; 12] = [
     "cut - 0",
     "cut - 0000200000",
     "peek 00 0",
+    "count - 0 0",
+    "count - 65535 65535",
+    "count 0a0a 00000010 0000065535",
 ];
 
 pub fn each_once(script: &mut Script) {
@@ -139,12 +168,13 @@ pub fn request(script: &mut Script, random: &mut Random) {
         4 => script.ask(random.pick(&ODD)),
         5 => script.ask_unreadable(&any_bytes(random)),
         _ => {
-            let (word, bytes) = match random.below(3) {
-                0 => ("build", lists::small(random).bytes()),
-                1 => ("open", kinds::small_plan(random)),
-                _ => ("cut", kinds::small_plan(random)),
+            let (word, bytes, numbers) = match random.below(4) {
+                0 => ("build", lists::small(random).bytes(), "60"),
+                1 => ("open", kinds::small_plan(random), "60"),
+                2 => ("cut", kinds::small_plan(random), "60"),
+                _ => ("count", kinds::small_plan(random), "0 60"),
             };
-            script.ask_unreadable(&spoilt(random, word, &hex(&bytes)));
+            script.ask_unreadable(&spoilt(random, word, &hex(&bytes), numbers));
         }
     }
 }
@@ -154,10 +184,10 @@ fn any_bytes(random: &mut Random) -> Vec<u8> {
     bytes.filter(|&byte| byte != b'\n').collect()
 }
 
-/// A good request of bytes and a number with one thing spoilt, somewhere in it.
-fn spoilt(random: &mut Random, word: &str, hex: &str) -> Vec<u8> {
-    let mut line = format!("{word} {hex} 60").into_bytes();
-    let digits = word.len() + 1..line.len() - " 60".len();
+/// A good request of bytes and numbers with one thing spoilt, somewhere in it.
+fn spoilt(random: &mut Random, word: &str, hex: &str, numbers: &str) -> Vec<u8> {
+    let mut line = format!("{word} {hex} {numbers}").into_bytes();
+    let digits = word.len() + 1..word.len() + 1 + hex.len();
     let digit = random.within(digits.start, digits.end - 1);
     match random.below(6) {
         0 => {

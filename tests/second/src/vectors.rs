@@ -1,5 +1,6 @@
-//! The cases that document 01 works on paper, one for 24, a session with the log of request 2026-01
-//! and some with 36 of request 2026-02, with answers written by hand.
+//! The cases that document 01 works on paper, one for 24, a session with the log of request
+//! 2026-01, some with 36 of request 2026-02 and some counts of request 2026-03, with answers written
+//! by hand.
 
 use crate::script::Script;
 
@@ -17,6 +18,7 @@ fn cases() -> Vec<(String, String)> {
     cases.extend(steps());
     cases.extend(half_away());
     cases.extend(log());
+    cases.extend(counts());
     cases
 }
 
@@ -141,6 +143,33 @@ fn log() -> Vec<(String, String)> {
         (format!("append {p8}"), "10 slot=5 job=0 switch=2"),
     ];
     cases.map(|(request, answer)| (request, answer.to_string())).to_vec()
+}
+
+/// Counts in P1's table LO.
+fn counts() -> Vec<(String, String)> {
+    let cases = [
+        // job 1 has two entries, at slots 0 and 1
+        ("1 0", 0),
+        ("1 1", 1),
+        ("1 2", 2),
+        ("1 65535", 2),
+        // job 0 has one, at slot 2
+        ("0 2", 0),
+        ("0 3", 1),
+        // the idle entries, at slots 3 and 4
+        ("255 4", 1),
+        ("255 5", 2),
+        // no entry: a job that the table does not name, and jobs over 255
+        ("2 5", 0),
+        ("256 65535", 0),
+        ("257 2", 0),
+        ("511 5", 0),
+        ("65535 5", 0),
+    ];
+    let in_table = |(asked, count)| (format!("count 010100ffff {asked}"), count);
+    let empty = ("count - 0 1".to_string(), 0);
+    let cases = cases.map(in_table).into_iter().chain([empty]);
+    cases.map(|(request, count)| (request, format!("0 count={count}"))).collect()
 }
 
 /// The cases as a script, and whether this program answers each as the paper does.
