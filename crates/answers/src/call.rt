@@ -28,6 +28,10 @@ pub(crate) fn read(plan: &[u8]) -> ReadAnswer {
     planfile::read(plan)
 }
 
+pub(crate) fn entries_before(table: &[u8], job: usize, slot: usize) -> usize {
+    verdict::count::entries_before(table, job, slot)
+}
+
 pub(crate) fn open(plan: &[u8], first: usize) -> Opened {
     dispatch::open::open(plan, (first % 65536) as u16)
 }

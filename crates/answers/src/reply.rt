@@ -101,6 +101,11 @@ fn reply_read(page: Page, plan: &[u8]) -> Page {
     }
 }
 
+fn reply_count(page: Page, table: &[u8], job: usize, slot: usize) -> Page {
+    let count = call::entries_before(table, job, slot);
+    page.put(b"0 count=").number(count)
+}
+
 fn reply_open(d: Desk, plan: &[u8], first: usize) -> Desk {
     let o = call::open(plan, first);
     let a = o.answer;
@@ -148,6 +153,7 @@ fn reply_bytes(page: Page, r: Request, list: &[u8], lo: &[u8], hi: &[u8]) -> Pag
         Request::Write(n) => reply_write(page, list, lo, hi, n),
         Request::Build(n) => reply_build(page, list, n),
         Request::Read => reply_read(page, list),
+        Request::Count(job, slot) => reply_count(page, list, job, slot),
         _ => page.put(b"?"),
     }
 }

@@ -28,6 +28,7 @@ pub enum Request {
     Open(usize),
     Step(usize, usize),
     Poke(usize, usize, usize),
+    Count(usize, usize),
     Log(LogRequest),
     Unreadable,
 }
@@ -89,8 +90,18 @@ fn read_poke(line: &[u8]) -> Request {
     asked(Request::Poke(f, i, v), line, 4, i, v)
 }
 
+// Any job and any slot: also a job that no entry can be, and a slot past the table.
+fn read_count(line: &[u8], d: Decoded) -> Request {
+    let job = number(line, 2, MOST_NUMBER);
+    let slot = number(line, 3, MOST_NUMBER);
+    if job == NONE {
+        return Request::Unreadable;
+    }
+    asked(Request::Count(job, slot), line, 4, d.list, slot)
+}
+
 pub fn request_of(line: &[u8], d: Decoded) -> Request {
-    let words = b"list check write build read open step poke";
+    let words = b"list check write build read open step poke count";
     match place_in(words, field(line, 0)) {
         0 => asked(Request::List, line, 2, d.list, 0),
         1 => asked(Request::Check, line, 4, d.hi, 0),
@@ -100,6 +111,7 @@ pub fn request_of(line: &[u8], d: Decoded) -> Request {
         5 => read_open(line, d),
         6 => read_step(line),
         7 => read_poke(line),
+        8 => read_count(line, d),
         _ => log_request_of(line, d),
     }
 }
