@@ -6,6 +6,8 @@ use std::process::ExitCode;
 
 mod answer;
 mod compare;
+#[cfg(target_arch = "x86_64")]
+mod counts;
 mod frame;
 mod held;
 mod hut;
@@ -41,6 +43,13 @@ fn main() -> ExitCode {
             return ExitCode::FAILURE;
         }
     }
+    #[cfg(target_arch = "x86_64")]
+    for question in counts::all() {
+        if let Some(difference) = question.difference() {
+            eprintln!("{difference}");
+            return ExitCode::FAILURE;
+        }
+    }
     println!("| List | Call | Rattle | Rust | Rattle / Rust | quartiles |");
     println!("|---|---|---:|---:|---:|---|");
     for named in &lists {
@@ -49,6 +58,10 @@ fn main() -> ExitCode {
     let plans: Vec<&[u8]> = lists.iter().filter_map(|named| named.plan.as_deref()).collect();
     if let [small, .., largest] = plans[..] {
         time_log(small, largest);
+    }
+    #[cfg(target_arch = "x86_64")]
+    for question in counts::all() {
+        row(&question.name(), &question.call(), question.time());
     }
     ExitCode::SUCCESS
 }
@@ -166,7 +179,9 @@ fn row(name: &str, call: &str, timed: Timed) {
 }
 
 fn time_of(nanoseconds: f64) -> String {
-    if nanoseconds < 1e3 {
+    if nanoseconds < 1e1 {
+        format!("{nanoseconds:.1} ns")
+    } else if nanoseconds < 1e3 {
         format!("{nanoseconds:.0} ns")
     } else if nanoseconds < 1e6 {
         format!("{:.2} µs", nanoseconds / 1e3)

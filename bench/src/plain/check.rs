@@ -1,5 +1,6 @@
 //! The check: 45, and the straightforward search, which counts anew at each switch.
 
+use super::count::entries_before;
 use super::list::{self, List, Units, MOST_JOBS};
 use super::IDLE;
 use crate::answer::{Answer, Place, ABSENT, YES};
@@ -48,14 +49,10 @@ fn square(list: &List) -> Square {
     square
 }
 
-fn entries_before(table: &[u8], job: u8, slot: usize) -> usize {
-    table[..slot].iter().filter(|&&entry| entry == job).count()
-}
-
 /// Whether table LO gives, at this slot, a high job with CHI > CLO its CLO-th unit.
 pub fn switches_at(list: &List, lo: &[u8], slot: usize) -> bool {
     list.named(lo[slot]).is_some_and(|job| {
-        job.high && job.chi > job.clo && entries_before(lo, lo[slot], slot) + 1 == job.clo
+        job.high && job.chi > job.clo && entries_before(lo, lo[slot].into(), slot) + 1 == job.clo
     })
 }
 
@@ -90,7 +87,7 @@ impl<'a> Search<'a> {
         let mut had = [0; MOST_JOBS];
         let mut need = [0; MOST_JOBS];
         for (number, job) in list.jobs().enumerate() {
-            had[number] = entries_before(lo, number as u8, slot + 1).min(job.clo);
+            had[number] = entries_before(lo, number, slot + 1).min(job.clo);
             let ended = number != usize::from(lo[slot]) && had[number] >= job.clo;
             need[number] = if ended { job.clo } else { job.chi };
         }

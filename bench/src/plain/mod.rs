@@ -3,6 +3,7 @@
 
 pub mod build;
 pub mod check;
+pub mod count;
 pub mod dispatch;
 mod hitable;
 mod late;

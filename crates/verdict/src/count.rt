@@ -91,18 +91,15 @@ pub(crate) fn move_on(counts: &mut [usize; MOST_JOBS], table: &[u8], t: usize)
     }
 }
 
-// The same question, asked of the running form.
+// The same question, asked of the running form: the table and the slot are those that it is of.
 pub(crate) fn entries_so_far(
     counts: &[usize; MOST_JOBS],
     table: &[u8],
     job: usize,
     slot: usize,
 ) -> usize
-    requires { ⌜ Counted (firstEdition .jobs) (now table) (now counts) slot ⌝ }
+    requires { ⌜ Counted (firstEdition .jobs) (now table) (now counts) slot × (job < firstEdition .jobs) ⌝ }
     ensures { λ r. ⌜ r ≡ entriesIn (now (table .entry)) job slot ⌝ }
 {
-    if job < MOST_JOBS {
-        return counts[job];
-    }
-    entries_before(table, job, slot)
+    counts[job]
 }

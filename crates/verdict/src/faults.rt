@@ -150,7 +150,7 @@ fn switches_at(
     t: usize,
     j: usize,
 ) -> bool
-    requires { ⌜ (jobAt n ≤ length (now list)) × (t < firstEdition .slots) × Counted (firstEdition .jobs) (now lo) (now counts) t ⌝ }
+    requires { ⌜ (n ≤ firstEdition .jobs) × (jobAt n ≤ length (now list)) × (t < firstEdition .slots) × (t < length (now lo)) × (j ≡ entryAt (now lo) t) × Counted (firstEdition .jobs) (now lo) (now counts) (t + 1) ⌝ }
     ensures { λ r. ⌜ r ≡ switchesAt (now (list .entry)) n (now (lo .entry)) t j ⌝ }
 {
     if n <= j {
@@ -163,7 +163,7 @@ fn switches_at(
     if high_of(list, j) <= o {
         return false;
     }
-    entries_so_far(counts, lo, j, t) + 1 == o
+    entries_so_far(counts, lo, j, t + 1) == o
 }
 
 // Each switch, by rising slot: table HI from the slot after it. The entries of table LO are counted once, as the slots go by.
@@ -185,9 +185,8 @@ fn switches_from(
             break Search::Fine;
         }
         let j = entry_at(lo, t);
-        let switches = switches_at(list, n, lo, &counts, t, j);
         move_on(&mut counts, lo, t);
-        if switches {
+        if switches_at(list, n, lo, &counts, t, j) {
             let had = units_before(list, n, lo, &counts, t + 1);
             let need = needs_after(list, n, &had, j);
             let f = scan_from(list, n, before, lo, hi, had, &need, 1, l, t + 1, t);

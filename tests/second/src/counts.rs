@@ -39,10 +39,10 @@ const KINDS: [(&str, fn(&Question) -> bool); 20] = [
 
 /// At and around the sizes of blocks that a count may go by, and 255 blocks of 16: a byte counts
 /// no further. The last are the longest table that a SLOT can end, and the longest that can be read.
-const LENGTHS: [usize; 40] = [
-    1, 2, 7, 8, 9, 15, 16, 17, 31, 32, 33, 63, 64, 65, 127, 128, 129, 191, 192, 193, 239, 240, 241,
-    254, 255, 256, 257, 509, 510, 511, 512, 1023, 1024, 1025, 4079, 4080, 4081, 4097, 65_535,
-    65_536,
+const LENGTHS: [usize; 46] = [
+    1, 2, 7, 8, 9, 15, 16, 17, 31, 32, 33, 63, 64, 65, 127, 128, 129, 191, 192, 193, 223, 224, 225,
+    239, 240, 241, 254, 255, 256, 257, 447, 448, 449, 509, 510, 511, 512, 1023, 1024, 1025, 4079,
+    4080, 4081, 4097, 65_535, 65_536,
 ];
 
 /// A question, and its count as the table was made for it.

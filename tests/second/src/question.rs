@@ -14,7 +14,7 @@ pub const MOST_WORD: usize = 65_535;
 pub const ENTRIES: usize = 256;
 
 /// The sizes of blocks that a count may go by.
-const BLOCKS: [usize; 8] = [8, 16, 32, 64, 128, 255, 256, 1024];
+const BLOCKS: [usize; 9] = [8, 16, 32, 64, 128, 224, 255, 256, 1024];
 
 pub struct Question {
     pub table: Vec<u8>,

@@ -12,15 +12,7 @@ element-copy-out-result : tie.Need-element-copy-out-result
 element-copy-out-result c = search needs
 
 returns : tie.Need-returns
-returns c = c .before .before .before .pre .each (c .before .before .before .args .job) (omega arith)
-
-entries-before-requires : tie.Need-entries-before-requires
-entries-before-requires c κs = search needs
-
-returns-2 : tie.Need-returns-2
-returns-2 c = c .entries-before .ensures
+returns c = c .before .pre .0 .each (c .before .args .job) (c .before .pre .1)
 
 pub entries-so-far-spec : {M : Type 1} → statement M
-entries-so-far-spec =
-    tie.close
-    (tie.spec mul-result element-copy-out-result returns entries-before-requires returns-2)
+entries-so-far-spec = tie.close (tie.spec mul-result element-copy-out-result returns)

@@ -1,9 +1,13 @@
 -- `switches_at` meets its contract: the tests in their order, and the count last.
 -- Assumes nothing.
-use mathlib.Core.Path.{_∙_, sym}
+use mathlib.Core.Path.{_∙_, ap, refl, sym}
+use Prim.Native.Nat.{ℕ}
 use native.Mathlib.Omega.{arith}
 use borrow.Author.Needs.{needs}
-use Rattle.verdict.proofs.Named.{entries-in-most, switch-count, switch-flat, switch-low, switch-no-job}
+use lib.Dec.{eqb}
+use Rattle.verdict.proofs.Counted.{in-here}
+use Rattle.verdict.proofs.Named.{switch-count, switch-flat, switch-low, switch-no-job}
+use Rattle.verdict.specs.Count.{entriesIn}
 use Rattle.verdict.proofs.faults.switches_at.Statement.{statement}
 use Rattle.verdict.proofs.faults.switches_at.Tie as tie
 
@@ -25,14 +29,17 @@ high-of-requires c κs = search needs
 returns-3 : tie.Need-returns-3
 returns-3 c = let a = c .before .before .before .before .before .before .before .before .args in switch-flat (a .list .now) (a .n) (a .lo .now) (a .t) (a .j) (omega (arith, c .before .high-of .ensures .0, c .before .before .ordinary-of .ensures .0, c .if3 .taken))
 
-entries-so-far-requires : tie.Need-entries-so-far-requires
-entries-so-far-requires c κs = search needs
+add-entries-so-far : tie.Need-add-entries-so-far
+add-entries-so-far c = search needs
 
-add-result : tie.Need-add-result
-add-result c = let a = c .before .before .before .before .before .before .before .before .before .args in omega (arith, c .entries-so-far .ensures, entries-in-most (a .list .now) (a .n) (a .lo .now) (a .t) (a .j))
+entries-so-far-requires : tie.Need-entries-so-far-requires
+entries-so-far-requires c κs = (c .before .before .before .before .before .before .before .before .pre .5, omega (arith, c .before .before .before .before .before .if1 .left, c .before .before .before .before .before .before .before .before .pre .0))
 
 returns-4 : tie.Need-returns-4
-returns-4 c = let a = c .before .before .before .before .before .before .before .before .before .args in switch-count (a .list .now) (a .n) (a .lo .now) (a .t) (a .j) (c .before .before .before .before .before .before .if1 .left) (sym (c .before .before .before .before .before .level-of .ensures .0) ∙ c .before .before .before .before .if2 .left) (omega (arith, c .before .before .high-of .ensures .0, c .before .before .before .ordinary-of .ensures .0, c .before .if3 .left)) (c .entries-so-far .result) (c .before .before .before .ordinary-of .result) (c .entries-so-far .ensures) (c .before .before .before .ordinary-of .ensures .0)
+returns-4 c = let a = c .before .before .before .before .before .before .before .before .before .args in
+    let p = c .before .before .before .before .before .before .before .before .before .pre in
+    ap (λ (x : ℕ). eqb x (c .before .before .before .ordinary-of .result)) (c .entries-so-far .ensures ∙ sym (in-here (a .lo .now) (a .t) (a .j) (p .3) (sym (p .4))))
+    ∙ switch-count (a .list .now) (a .n) (a .lo .now) (a .t) (a .j) (c .before .before .before .before .before .before .if1 .left) (sym (c .before .before .before .before .before .level-of .ensures .0) ∙ c .before .before .before .before .if2 .left) (omega (arith, c .before .before .high-of .ensures .0, c .before .before .before .ordinary-of .ensures .0, c .before .if3 .left)) (entriesIn (a .lo .now) (a .j) (a .t)) (c .before .before .before .ordinary-of .result) refl (c .before .before .before .ordinary-of .ensures .0)
 
 pub switches-at-spec : {M : Type 1} → statement M
 switches-at-spec =
@@ -44,6 +51,6 @@ switches-at-spec =
     ordinary-of-requires
     high-of-requires
     returns-3
+    add-entries-so-far
     entries-so-far-requires
-    add-result
     returns-4)

@@ -32,17 +32,17 @@ loop-holds c = let a = c .before .before .before .args in (omega arith, each-sta
 entry-at-requires : tie.Need-entry-at-requires Inv-loop μ-loop
 entry-at-requires c κs = search needs
 
-switches-at-requires : tie.Need-switches-at-requires Inv-loop μ-loop
-switches-at-requires c κs = (omega arith, omega arith, c .before .before .before .loop .inv .2)
-
 move-on-requires : tie.Need-move-on-requires Inv-loop μ-loop
-move-on-requires c κs = c .before .before .before .before .before .loop .inv .2
+move-on-requires c κs = c .before .before .before .loop .inv .2
+
+switches-at-requires : tie.Need-switches-at-requires Inv-loop μ-loop
+switches-at-requires c κs = (omega arith, omega arith, omega arith, omega arith, c .before .before .before .entry-at .ensures .0, c .before .move-on .ensures)
 
 add-units-before : tie.Need-add-units-before Inv-loop μ-loop
 add-units-before c = omega arith
 
 units-before-requires : tie.Need-units-before-requires Inv-loop μ-loop
-units-before-requires c κs = (omega arith, omega arith, c .before .before .move-on .ensures)
+units-before-requires c κs = (omega arith, omega arith, c .before .before .before .before .move-on .ensures)
 
 needs-after-requires : tie.Need-needs-after-requires Inv-loop μ-loop
 needs-after-requires c κs = omega arith
@@ -72,14 +72,14 @@ loop-again c = let a = c .before .before .before .before .before .before .before
     elim (c .if2 .came) [
       | inl w ↦ (
         omega arith,
-        o .inv .1 ∙ each-yes (a .list .now) (a .n) (a .l) (a .lo .now) (a .hi .now) (edgeAt (a .before .now)) (o .t) (c .before .before .before .before .before .before .if1 .left) (c .before .before .before .before .before .before .before .before .before .before .before .pre .3) (c .before .before .before .before .before .entry-at .result) (c .before .before .before .before .before .entry-at .ensures .0) (w .2 .result) (w .4 .result) (sym (c .before .before .before .switches-at .ensures) ∙ w .0 .taken) (omega (arith, c .before .before .before .before .before .before .before .before .before .before .before .pre .0)) (omega (arith, c .before .before .before .before .before .before .before .before .before .before .before .pre .2)) (w .2 .ensures) (w .4 .ensures)
+        o .inv .1 ∙ each-yes (a .list .now) (a .n) (a .l) (a .lo .now) (a .hi .now) (edgeAt (a .before .now)) (o .t) (c .before .before .before .before .before .before .if1 .left) (c .before .before .before .before .before .before .before .before .before .before .before .pre .3) (c .before .before .before .before .before .entry-at .result) (c .before .before .before .before .before .entry-at .ensures .0) (w .2 .result) (w .4 .result) (sym (c .before .switches-at .ensures) ∙ w .0 .taken) (omega (arith, c .before .before .before .before .before .before .before .before .before .before .before .pre .0)) (omega (arith, c .before .before .before .before .before .before .before .before .before .before .before .pre .2)) (w .2 .ensures) (w .4 .ensures)
             ∙ told-then (scan (frameWith (a .list .now) (a .n) (a .l) (a .lo .now) (a .hi .now) (edgeAt (a .before .now))) (unitsOf (w .4 .result)) (a .l - (o .t + 1)) (o .t + 1) (state 1 0 (chainOf (o .t)) (w .2 .result))) on (sym (w .6 .ensures) ∙ w .8 .given .1),
-        c .before .move-on .ensures,
+        c .before .before .before .move-on .ensures,
       )
       | inr w ↦ (
         omega arith,
-        o .inv .1 ∙ each-no (a .list .now) (a .n) (a .l) (a .lo .now) (a .hi .now) (edgeAt (a .before .now)) (o .t) (c .before .before .before .before .before .before .if1 .left) (c .before .before .before .before .before .before .before .before .before .before .before .pre .3) (c .before .before .before .before .before .entry-at .result) (c .before .before .before .before .before .entry-at .ensures .0) (sym (c .before .before .before .switches-at .ensures) ∙ w .left),
-        c .before .move-on .ensures,
+        o .inv .1 ∙ each-no (a .list .now) (a .n) (a .l) (a .lo .now) (a .hi .now) (edgeAt (a .before .now)) (o .t) (c .before .before .before .before .before .before .if1 .left) (c .before .before .before .before .before .before .before .before .before .before .before .pre .3) (c .before .before .before .before .before .entry-at .result) (c .before .before .before .before .before .entry-at .ensures .0) (sym (c .before .switches-at .ensures) ∙ w .left),
+        c .before .before .before .move-on .ensures,
       )
     ]
 
@@ -92,7 +92,7 @@ returns-2 c = let a = c .before .before .before .before .before .before .before 
     let g = c .enum-told2 .given .1 in
     let had = c .before .before .before .before .before .before .units-before .result in
     let need = c .before .before .before .before .needs-after .result in
-    g ∙ sym (ap told (o .inv .1 ∙ each-yes (a .list .now) (a .n) (a .l) (a .lo .now) (a .hi .now) (edgeAt (a .before .now)) (o .t) (c .before .before .before .before .before .before .before .before .before .before .before .before .before .before .if1 .left) (c .before .before .before .before .before .before .before .before .before .before .before .before .before .before .before .before .before .before .before .pre .3) (c .before .before .before .before .before .before .before .before .before .before .before .before .before .entry-at .result) (c .before .before .before .before .before .before .before .before .before .before .before .before .before .entry-at .ensures .0) had need (sym (c .before .before .before .before .before .before .before .before .before .before .before .switches-at .ensures) ∙ c .before .before .before .before .before .before .before .before .if2 .taken) (omega (arith, c .before .before .before .before .before .before .before .before .before .before .before .before .before .before .before .before .before .before .before .pre .0)) (omega (arith, c .before .before .before .before .before .before .before .before .before .before .before .before .before .before .before .before .before .before .before .pre .2)) (c .before .before .before .before .before .before .units-before .ensures) (c .before .before .before .before .needs-after .ensures))
+    g ∙ sym (ap told (o .inv .1 ∙ each-yes (a .list .now) (a .n) (a .l) (a .lo .now) (a .hi .now) (edgeAt (a .before .now)) (o .t) (c .before .before .before .before .before .before .before .before .before .before .before .before .before .before .if1 .left) (c .before .before .before .before .before .before .before .before .before .before .before .before .before .before .before .before .before .before .before .pre .3) (c .before .before .before .before .before .before .before .before .before .before .before .before .before .entry-at .result) (c .before .before .before .before .before .before .before .before .before .before .before .before .before .entry-at .ensures .0) had need (sym (c .before .before .before .before .before .before .before .before .before .switches-at .ensures) ∙ c .before .before .before .before .before .before .before .before .if2 .taken) (omega (arith, c .before .before .before .before .before .before .before .before .before .before .before .before .before .before .before .before .before .before .before .pre .0)) (omega (arith, c .before .before .before .before .before .before .before .before .before .before .before .before .before .before .before .before .before .before .before .pre .2)) (c .before .before .before .before .before .before .units-before .ensures) (c .before .before .before .before .needs-after .ensures))
     ∙ told-found (scan (frameWith (a .list .now) (a .n) (a .l) (a .lo .now) (a .hi .now) (edgeAt (a .before .now))) (unitsOf need) (a .l - (o .t + 1)) (o .t + 1) (state 1 0 (chainOf (o .t)) had)) (eachSwitch (frameWith (a .list .now) (a .n) (a .l) (a .lo .now) (a .hi .now) (edgeAt (a .before .now))) (a .l - (o .t + 1)) (o .t + 1) (loUnits (a .list .now) (a .n) (a .l) (a .lo .now) (a .hi .now) (edgeAt (a .before .now)) (o .t + 1))) _ (sym (c .before .before .scan-from .ensures) ∙ g))
 
 pub switches-from-spec : {M : Type 1} → statement M
@@ -103,8 +103,8 @@ switches-from-spec =
     μ-loop
     loop-holds
     entry-at-requires
-    switches-at-requires
     move-on-requires
+    switches-at-requires
     add-units-before
     units-before-requires
     needs-after-requires
