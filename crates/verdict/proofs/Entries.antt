@@ -2,7 +2,7 @@
 -- Assumes nothing.
 use mathlib.Core.List.{List}
 use mathlib.Core.Path.{_∙_, _≡_, refl}
-use Prim.Native.Nat.{_+_, _<_, _≤_, min, suc, zero, ℕ}
+use Prim.Native.Nat.{_+_, _<_, _≤_, suc, zero, ℕ}
 use native.Mathlib.Decide.{decLt}
 use native.Mathlib.Numerals.{add-one}
 use native.Mathlib.Omega.{arith}
@@ -11,7 +11,7 @@ use Rattle.basics.proofs.At.{getD-any, getD-past}
 use Rattle.basics.proofs.Below.{count-at-most, entries-else, entries-here, entries-zero}
 use Rattle.basics.specs.Below.{entriesBefore}
 use Rattle.basics.specs.Marks.{idle}
-use Rattle.verdict.specs.Count.{entriesIn, entryAt}
+use Rattle.verdict.specs.Count.{entryAt}
 
 module _ (table : List ℕ) (job t : ℕ) where
   pub entries-most : entriesBefore (entryAt table) job t ≤ t
@@ -33,10 +33,6 @@ module _ (table : List ℕ) (bytes : (i : ℕ) → getD table i 0 < 256) (job : 
       go (yes p) = absurd (omega (arith, e, bytes t, getD-any table t 0 idle p))
       go (no p) = absurd (omega (arith, e, getD-past table t idle (omega arith)))
 
-  none-before : (t : ℕ) → entriesBefore (entryAt table) job t ≡ 0
+  pub none-before : (t : ℕ) → entriesBefore (entryAt table) job t ≡ 0
   none-before zero = entries-zero (entryAt table) job
   none-before (suc t) = entries-else (entryAt table) job t (not-named t) ∙ none-before t
-
-  pub none-over : (t : ℕ) → entriesIn table job t ≡ 0
-  unfolding entriesIn
-  none-over t = none-before (min t (length table))

@@ -37,13 +37,17 @@ pub(crate) fn lower(a: usize, b: usize) -> usize
 }
 
 // How many of the entries from one slot to another name a job; they are so few that their count fits a byte.
-fn entries_within(table: &[u8], job: u8, from: usize, to: usize) -> usize
+fn entries_within(table: &[u8], job: usize, from: usize, to: usize) -> usize
     requires { ⌜ (from ≤ to) × (to ≤ length (now table)) × (to < from + 256) ⌝ }
     ensures { λ r. ⌜ r + entriesBefore (entryAt (now (table .entry))) job from ≡ entriesBefore (entryAt (now (table .entry))) job to ⌝ }
 {
+    if LARGEST < job {
+        return 0;
+    }
+    let entry = job as u8;
     let mut count: u8 = 0;
     for t in from..to {
-        if table[t] == job {
+        if table[t] == entry {
             count += 1;
         }
     }
@@ -51,7 +55,7 @@ fn entries_within(table: &[u8], job: u8, from: usize, to: usize) -> usize
 }
 
 // How many of the entries before `end` name a job: block after block, and what is left.
-fn entries_by_block(table: &[u8], job: u8, end: usize) -> usize
+fn entries_by_block(table: &[u8], job: usize, end: usize) -> usize
     requires { ⌜ end ≤ length (now table) ⌝ }
     ensures { λ r. ⌜ r ≡ entriesBefore (entryAt (now (table .entry))) job end ⌝ }
 {
@@ -68,14 +72,11 @@ fn entries_by_block(table: &[u8], job: u8, end: usize) -> usize
 pub fn entries_before(table: &[u8], job: usize, slot: usize) -> usize
     ensures { λ r. ⌜ r ≡ entriesIn (now (table .entry)) job slot ⌝ }
 {
-    if LARGEST < job {
-        return 0;
-    }
     let end = lower(slot, table.len());
     if end <= BLOCK {
-        return entries_within(table, job as u8, 0, end);
+        return entries_within(table, job, 0, end);
     }
-    entries_by_block(table, job as u8, end)
+    entries_by_block(table, job, end)
 }
 
 // The running form of the same count: of each job its entries before slot t, moved on past the entry in it. Past the table's end nothing changes.
