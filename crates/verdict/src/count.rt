@@ -84,11 +84,12 @@ pub(crate) fn move_on(counts: &mut [usize; MOST_JOBS], table: &[u8], t: usize)
     requires { ⌜ Counted (firstEdition .jobs) (now table) (now counts) t ⌝ }
     ensures { λ r. ⌜ Counted (firstEdition .jobs) (now (table .entry)) (now (counts .exit)) (t + 1) ⌝ }
 {
-    if t < table.len() {
-        let j = wide(table[t]);
-        if j < MOST_JOBS {
-            counts[j] = counts[j] + 1;
-        }
+    if table.len() <= t {
+        return;
+    }
+    let j = wide(table[t]);
+    if j < MOST_JOBS {
+        counts[j] = counts[j] + 1;
     }
 }
 

@@ -11,6 +11,9 @@ use Rattle.verdict.proofs.Named.{entries-in-most}
 use Rattle.verdict.proofs.count.move_on.Statement.{statement}
 use Rattle.verdict.proofs.count.move_on.Tie as tie
 
+returns : tie.Need-returns
+returns c = let a = c .before .before .args in counted-past _ (a .table .now) (a .counts .now) (a .t) (c .before .before .pre) (omega arith)
+
 shared-slice-read-wide : tie.Need-shared-slice-read-wide
 shared-slice-read-wide c = search needs
 
@@ -35,22 +38,20 @@ mul-counts-2 c = search needs
 element-write-counts : tie.Need-element-write-counts
 element-write-counts c = search needs
 
-returns : tie.Need-returns
-returns c = let a = c .before .before .before .before .before .before .args in
+returns-2 : tie.Need-returns-2
+returns-2 c = let a = c .before .before .before .before .before .before .args in
     let w = c .before .before .wide in
     counted-here _ (a .table .now) (a .counts .now) (a .t) (c .before .before .before .before .before .before .pre) (omega arith) (w .result) (w .ensures .0 ∙ getD-any (a .table .now) (a .t) 0 idle (omega arith)) (omega arith)
 
-returns-2 : tie.Need-returns-2
-returns-2 c = let a = c .before .before .before .before .before .args in
-    counted-other _ (a .table .now) (a .counts .now) (a .t) (c .before .before .before .before .before .pre) (omega arith) (omega (arith, c .before .wide .ensures .0 ∙ getD-any (a .table .now) (a .t) 0 idle (omega arith)))
-
 returns-3 : tie.Need-returns-3
-returns-3 c = let a = c .before .before .args in counted-past _ (a .table .now) (a .counts .now) (a .t) (c .before .before .pre) (omega arith)
+returns-3 c = let a = c .before .before .before .before .before .args in
+    counted-other _ (a .table .now) (a .counts .now) (a .t) (c .before .before .before .before .before .pre) (omega arith) (omega (arith, c .before .wide .ensures .0 ∙ getD-any (a .table .now) (a .t) 0 idle (omega arith)))
 
 pub move-on-spec : {M : Type 1} → statement M
 move-on-spec =
     tie.close
     (tie.spec
+    returns
     shared-slice-read-wide
     wide-requires
     mul-counts
@@ -58,6 +59,5 @@ move-on-spec =
     add-counts
     mul-counts-2
     element-write-counts
-    returns
     returns-2
     returns-3)
