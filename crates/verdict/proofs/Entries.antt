@@ -1,8 +1,8 @@
--- Laws of the count: an entry read, one slot more, its bound, and a job that no byte names.
+-- Laws of the count: one slot more, its bound, and a job that no byte names.
 -- Assumes nothing.
 use mathlib.Core.List.{List}
-use mathlib.Core.Path.{_∙_, _≡_, refl}
-use Prim.Native.Nat.{_+_, _<_, _≤_, suc, zero, ℕ}
+use mathlib.Core.Path.{_∙_, _≡_}
+use Prim.Native.Nat.{_+_, _<_, _≤_, min, suc, zero, ℕ}
 use native.Mathlib.Decide.{decLt}
 use native.Mathlib.Numerals.{add-one}
 use native.Mathlib.Omega.{arith}
@@ -11,7 +11,7 @@ use Rattle.basics.proofs.At.{getD-any, getD-past}
 use Rattle.basics.proofs.Below.{count-at-most, entries-else, entries-here, entries-zero}
 use Rattle.basics.specs.Below.{entriesBefore}
 use Rattle.basics.specs.Marks.{idle}
-use Rattle.verdict.specs.Count.{entryAt}
+use Rattle.verdict.specs.Count.{entriesIn, entryAt}
 
 module _ (table : List ℕ) (job t : ℕ) where
   pub entries-most : entriesBefore (entryAt table) job t ≤ t
@@ -23,6 +23,10 @@ module _ (table : List ℕ) (job t : ℕ) where
 
   pub count-else : (count : ℕ) → count ≡ entriesBefore (entryAt table) job t → ¬ (entryAt table t ≡ job) → count ≡ entriesBefore (entryAt table) job (t + 1)
   count-else count h e = rw (add-one t) (omega (arith, h, entries-else (entryAt table) job t e))
+
+pub entries-in-most : (table : List ℕ) (job t : ℕ) → entriesIn table job t ≤ length table
+unfolding entriesIn
+entries-in-most table job t = omega (arith, entries-most table job (min t (length table)))
 
 -- a job above every byte has no entry
 module _ (table : List ℕ) (bytes : (i : ℕ) → getD table i 0 < 256) (job : ℕ) (over : 255 < job) where

@@ -12,6 +12,6 @@ pub mod Demand
 pub mod Cases
 pub mod Fill
 pub mod Entries
-pub mod Counted
+pub mod Running
 pub mod Named
 pub mod Judged

@@ -4,16 +4,13 @@ use mathlib.Core.Bool.{Bool, _&&_, and-false, false, true}
 use mathlib.Core.List.{List, []}
 use mathlib.Core.Option.{Option}
 use mathlib.Core.Path.{_∙_, _≡_, ap, ap₂, sym}
-use Prim.Native.Nat.{_+_, _<_, _≤_, min, ℕ}
-use native.Mathlib.Omega.{arith}
+use Prim.Native.Nat.{_+_, _<_, _≤_, ℕ}
 use borrow.Author.Tests.{eq-eqb, le-ltb, lt-ltb, ne-eqb}
 use lib.Dec.{eqb, ltb}
-use lib.ListN.{length}
 use Rattle.basics.specs.Find.{isNone}
 use Rattle.basics.specs.Units.{unitsOf}
 use Rattle.frame.specs.Execution.{waitsFor}
 use Rattle.joblist.specs.Fields.{high, level, ordinary}
-use Rattle.verdict.proofs.Entries.{entries-most}
 use Rattle.verdict.proofs.Find.{first-none, first-some}
 use Rattle.verdict.specs.Count.{entriesIn}
 use Rattle.verdict.specs.Inner.{firstOf, namedTold, square, switchesAt}
@@ -52,10 +49,6 @@ module _ (s : List ℕ) (n : ℕ) (lo : List ℕ) (t j : ℕ) where
   pub switch-count : j < n → level s j ≡ 1 → ordinary s j < high s j → (k o : ℕ) → k ≡ entriesIn lo j t → o ≡ ordinary s j → eqb (k + 1) o ≡ switchesAt s n lo t j
   switch-count a b c k o p q =
       ap₂ (λ (x y : ℕ). eqb (x + 1) y) p q ∙ sym (rw (lt-ltb j n a, eq-eqb (level s j) 1 b, lt-ltb (ordinary s j) (high s j) c))
-
-  pub entries-in-most : entriesIn lo j t ≤ t
-  unfolding entriesIn
-  entries-in-most = omega (arith, entries-most lo j (min t (length lo)))
 
 -- whether a predecessor is waited for, of the square alone and of the list's
 module _ (s : List ℕ) (n : ℕ) (b : List Bool) (need had : List ℕ) (j : ℕ) where

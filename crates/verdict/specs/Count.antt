@@ -16,7 +16,7 @@ entryAt table t = getD table t idle
 unfoldable pub entriesIn : List ℕ → ℕ → ℕ → ℕ
 entriesIn table j t = entriesBefore (entryAt table) j (min t (length table))
 
--- the running form: a count for each of n jobs, its entries before t
-pub record Counted (n : ℕ) (table counts : List ℕ) (t : ℕ) : Type 0 where
+-- the running form: of each of n jobs its entries in the table before slot t
+pub record Running (n : ℕ) (table counts : List ℕ) (t : ℕ) : Type 0 where
   pub long : length counts ≡ n
   pub each : (j : ℕ) → j < n → unitsOf counts j ≡ entriesIn table j t

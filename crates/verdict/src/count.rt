@@ -4,13 +4,13 @@ ghost use Prim.Native.Nat.{_+_, _<_, _≤_, min};
 ghost use lib.ListN.{length};
 ghost use Rattle.basics.specs.Below.{entriesBefore};
 ghost use Rattle.basics.specs.Limits.{firstEdition};
-ghost use Rattle.verdict.specs.Count.{entryAt, entriesIn, Counted};
+ghost use Rattle.verdict.specs.Count.{entryAt, entriesIn, Running};
 use crate::IDLE;
 use joblist::MOST_JOBS;
 use joblist::wide;
 
 // An entry is a byte.
-const LARGEST: usize = 255;
+const LARGEST_ENTRY: usize = 255;
 
 // The entries that are counted at a time. Their count fits a byte, so that the compiler can take many at once; it takes
 // 32, and 224 is the largest multiple of 32 whose count fits.
@@ -41,7 +41,7 @@ fn entries_within(table: &[u8], job: usize, from: usize, to: usize) -> usize
     requires { ⌜ (from ≤ to) × (to ≤ length (now table)) × (to < from + 256) ⌝ }
     ensures { λ r. ⌜ r + entriesBefore (entryAt (now (table .entry))) job from ≡ entriesBefore (entryAt (now (table .entry))) job to ⌝ }
 {
-    if LARGEST < job {
+    if LARGEST_ENTRY < job {
         return 0;
     }
     let entry = job as u8;
@@ -73,34 +73,32 @@ pub fn entries_before(table: &[u8], job: usize, slot: usize) -> usize
     ensures { λ r. ⌜ r ≡ entriesIn (now (table .entry)) job slot ⌝ }
 {
     let end = lower(slot, table.len());
+    // so few are one block, and are spared the loop over blocks
     if end <= BLOCK {
         return entries_within(table, job, 0, end);
     }
     entries_by_block(table, job, end)
 }
 
-// The running form of the same count: of each job its entries before slot t, moved on past the entry in it. Past the table's end nothing changes.
+// The running form of the same count: of each job its entries before slot t, moved on past the entry in it. Idle is no job, and neither is what is read past the table's end: that changes nothing.
 pub(crate) fn move_on(counts: &mut [usize; MOST_JOBS], table: &[u8], t: usize)
-    requires { ⌜ Counted (firstEdition .jobs) (now table) (now counts) t ⌝ }
-    ensures { λ r. ⌜ Counted (firstEdition .jobs) (now (table .entry)) (now (counts .exit)) (t + 1) ⌝ }
+    requires { ⌜ Running (firstEdition .jobs) (now table) (now counts) t ⌝ }
+    ensures { λ _. ⌜ Running (firstEdition .jobs) (now (table .entry)) (now (counts .exit)) (t + 1) ⌝ }
 {
-    if table.len() <= t {
-        return;
-    }
-    let j = wide(table[t]);
+    let j = entry_at(table, t);
     if j < MOST_JOBS {
         counts[j] = counts[j] + 1;
     }
 }
 
-// The same question, asked of the running form: the table and the slot are those that it is of.
+// The same question, asked of the running form. It reads the counts alone; table and slot say what they are of.
 pub(crate) fn entries_so_far(
     counts: &[usize; MOST_JOBS],
     table: &[u8],
     job: usize,
     slot: usize,
 ) -> usize
-    requires { ⌜ Counted (firstEdition .jobs) (now table) (now counts) slot × (job < firstEdition .jobs) ⌝ }
+    requires { ⌜ Running (firstEdition .jobs) (now table) (now counts) slot × (job < firstEdition .jobs) ⌝ }
     ensures { λ r. ⌜ r ≡ entriesIn (now (table .entry)) job slot ⌝ }
 {
     counts[job]

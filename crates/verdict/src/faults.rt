@@ -12,7 +12,7 @@ ghost use Rattle.joblist.specs.Cycle.{Named};
 ghost use Rattle.frame.specs.Execution.{state};
 ghost use Rattle.frame.specs.Search.{scan};
 ghost use Rattle.frame.specs.TwoLevels.{needsHI, eachSwitch, searchTwo};
-ghost use Rattle.verdict.specs.Count.{entryAt, entriesIn, Counted};
+ghost use Rattle.verdict.specs.Count.{entryAt, entriesIn, Running};
 ghost use Rattle.verdict.specs.FrameOf.{frameWith};
 ghost use Rattle.verdict.specs.Inner.{told, chainOf, edgeAt, square, switchesAt, Steady, Rising};
 use crate::PAIRS;
@@ -106,7 +106,7 @@ fn units_before(
     counts: &[usize; MOST_JOBS],
     slot: usize,
 ) -> [usize; MOST_JOBS]
-    requires { ⌜ (n ≤ firstEdition .jobs) × (jobAt n ≤ length (now list)) × Counted (firstEdition .jobs) (now lo) (now counts) slot ⌝ }
+    requires { ⌜ (n ≤ firstEdition .jobs) × (jobAt n ≤ length (now list)) × Running (firstEdition .jobs) (now lo) (now counts) slot ⌝ }
     ensures { λ r. ⌜ ((i : ℕ) → i < n → unitsOf r i ≡ min (ordinary (now (list .entry)) i) (entriesIn (now (lo .entry)) i slot)) ⌝ }
 {
     let mut had = [0usize; MOST_JOBS];
@@ -150,7 +150,7 @@ fn switches_at(
     t: usize,
     j: usize,
 ) -> bool
-    requires { ⌜ (n ≤ firstEdition .jobs) × (jobAt n ≤ length (now list)) × (t < firstEdition .slots) × (t < length (now lo)) × (j ≡ entryAt (now lo) t) × Counted (firstEdition .jobs) (now lo) (now counts) (t + 1) ⌝ }
+    requires { ⌜ (n ≤ firstEdition .jobs) × (jobAt n ≤ length (now list)) × (t < firstEdition .slots) × (t < length (now lo)) × (j ≡ entryAt (now lo) t) × Running (firstEdition .jobs) (now lo) (now counts) (t + 1) ⌝ }
     ensures { λ r. ⌜ r ≡ switchesAt (now (list .entry)) n (now (lo .entry)) t j ⌝ }
 {
     if n <= j {

@@ -1,6 +1,5 @@
 -- `entries_so_far` meets its contract.
 -- Assumes nothing.
-use native.Mathlib.Omega.{arith}
 use borrow.Author.Needs.{needs}
 use Rattle.verdict.proofs.count.entries_so_far.Statement.{statement}
 use Rattle.verdict.proofs.count.entries_so_far.Tie as tie

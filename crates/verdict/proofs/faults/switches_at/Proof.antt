@@ -5,7 +5,7 @@ use Prim.Native.Nat.{ℕ}
 use native.Mathlib.Omega.{arith}
 use borrow.Author.Needs.{needs}
 use lib.Dec.{eqb}
-use Rattle.verdict.proofs.Counted.{in-here}
+use Rattle.verdict.proofs.Running.{in-here}
 use Rattle.verdict.proofs.Named.{switch-count, switch-flat, switch-low, switch-no-job}
 use Rattle.verdict.specs.Count.{entriesIn}
 use Rattle.verdict.proofs.faults.switches_at.Statement.{statement}

@@ -11,23 +11,23 @@ use Rattle.basics.specs.Units.{unitsOf}
 use Rattle.frame.specs.Execution.{state}
 use Rattle.frame.specs.Search.{scan}
 use Rattle.frame.specs.TwoLevels.{eachSwitch}
-use Rattle.verdict.proofs.Counted.{counted-first}
+use Rattle.verdict.proofs.Running.{running-first}
 use Rattle.verdict.proofs.Switches.{each-end, each-no, each-start, each-yes, loUnits}
 use Rattle.verdict.proofs.Told.{told-found, told-then}
-use Rattle.verdict.specs.Count.{Counted}
+use Rattle.verdict.specs.Count.{Running}
 use Rattle.verdict.specs.FrameOf.{frameWith}
 use Rattle.verdict.specs.Inner.{chainOf, edgeAt, told}
 use Rattle.verdict.proofs.faults.switches_from.Statement.{statement}
 use Rattle.verdict.proofs.faults.switches_from.Tie as tie
 
 abbrev Inv-loop : tie.InvT-loop
-Inv-loop list n before lo hi l counts₀ t₀ counts t = (t ≤ l) × (eachSwitch (frameWith list n l lo hi (edgeAt before)) l 0 (replicate n 0) ≡ eachSwitch (frameWith list n l lo hi (edgeAt before)) (l - t) t (loUnits list n l lo hi (edgeAt before) t)) × Counted (firstEdition .jobs) lo counts t
+Inv-loop list n before lo hi l counts₀ t₀ counts t = (t ≤ l) × (eachSwitch (frameWith list n l lo hi (edgeAt before)) l 0 (replicate n 0) ≡ eachSwitch (frameWith list n l lo hi (edgeAt before)) (l - t) t (loUnits list n l lo hi (edgeAt before) t)) × Running (firstEdition .jobs) lo counts t
 
 abbrev μ-loop : tie.MeasureT-loop
 μ-loop list n before lo hi l counts₀ t₀ counts t = l - t
 
 loop-holds : tie.Need-loop-holds Inv-loop μ-loop
-loop-holds c = let a = c .before .before .before .args in (omega arith, each-start (a .list .now) (a .n) (a .l) (a .lo .now) (a .hi .now) (edgeAt (a .before .now)), counted-first (firstEdition .jobs) (a .lo .now))
+loop-holds c = let a = c .before .before .before .args in (omega arith, each-start (a .list .now) (a .n) (a .l) (a .lo .now) (a .hi .now) (edgeAt (a .before .now)), running-first (firstEdition .jobs) (a .lo .now))
 
 entry-at-requires : tie.Need-entry-at-requires Inv-loop μ-loop
 entry-at-requires c κs = search needs
