@@ -17,16 +17,21 @@ unsafe extern "C" fn plain(table: *const u8, entries: usize, job: usize, slot: u
     entries_before(unsafe { slice::from_raw_parts(table, entries) }, job, slot)
 }
 
-/// A job that has every second entry of a table, counted from its end; one that has every 64th; and
-/// one that has none.
+/// The job of every second entry, from slot 0 on.
 const OFTEN: u8 = 0;
+
+/// The job of slot 1 and each 64th after it.
 const RARELY: u8 = 1;
+
+/// The job of the entries that are left.
 const OTHER: u8 = 2;
+
+/// A job that has none.
 const NEVER: u8 = 3;
 
 /// The size of a largest table and of a small one, and smaller ones.
 const SIZES: [usize; 2] = [1024, 16];
-const SMALLER: [usize; 5] = [8, 4, 2, 1, 0];
+const SMALLER: [usize; 8] = [15, 8, 7, 4, 3, 2, 1, 0];
 
 /// How many entries of a job stand in a table before a slot.
 pub struct Question {
@@ -58,21 +63,29 @@ pub fn all() -> Vec<Question> {
 }
 
 fn table(size: usize) -> Vec<u8> {
-    let entry = |slot: usize| match (size - slot) % 64 {
-        2 => RARELY,
-        left if left % 2 == 1 => OFTEN,
+    let entry = |slot: usize| match slot % 64 {
+        1 => RARELY,
+        place if place % 2 == 0 => OFTEN,
         _ => OTHER,
     };
     (0..size).map(entry).collect()
 }
 
+/// As the other rows write numbers: 1,024.
+fn with_comma(number: usize) -> String {
+    match number {
+        0..1000 => number.to_string(),
+        _ => format!("{},{:03}", number / 1000, number % 1000),
+    }
+}
+
 impl Question {
     pub fn name(&self) -> String {
-        format!("table of {}", self.table.len())
+        format!("table of {}", with_comma(self.table.len()))
     }
 
     pub fn call(&self) -> String {
-        format!("count before {}, job {}", self.slot, self.often)
+        format!("count before {}, job {}", with_comma(self.slot), self.often)
     }
 
     /// Where the two sides differ: also past the end, and for jobs that are no byte.

@@ -1,5 +1,5 @@
-//! The desk in plain Rust: the same rules and the same loops as the proved crates, over the same
-//! bytes. It allocates nothing, and every index is checked.
+//! The desk in plain Rust: the same rules and, but for those of 37 and of the count, the same loops
+//! as the proved crates, over the same bytes. It allocates nothing, and every index is checked.
 
 pub mod build;
 pub mod check;

@@ -1,4 +1,4 @@
--- Counting: how many entries of a job stand in a table before a slot. The one home of counting.
+-- Counting: how many entries of a job stand in a table before a slot, and the running form. The one home of the question.
 -- Assumes nothing.
 use Prim.Native.Nat.{ℕ, _<_, min}
 use mathlib.Core.Path.{_≡_}

@@ -68,7 +68,7 @@ fn entries_by_block(table: &[u8], job: usize, end: usize) -> usize
     count + entries_within(table, job, from, end)
 }
 
-// How many entries of a job stand in a table before a slot: the one home of counting.
+// How many entries of a job stand in a table before a slot: the one home of the question.
 pub fn entries_before(table: &[u8], job: usize, slot: usize) -> usize
     ensures { λ r. ⌜ r ≡ entriesIn (now (table .entry)) job slot ⌝ }
 {

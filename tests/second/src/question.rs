@@ -8,7 +8,7 @@ use crate::plan::IDLE;
 use crate::random::Random;
 
 /// The largest number of a field, JOB and SLOT alike.
-pub const MOST_WORD: usize = 65_535;
+pub const MOST_WORD: usize = u16::MAX as usize;
 
 /// How many values a table's byte has: a larger job stands in no table.
 pub const ENTRIES: usize = 256;
