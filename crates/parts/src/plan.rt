@@ -27,7 +27,7 @@ pub const ENTRIES: usize = 2 * MOST_SLOTS;
 
 // The frame length L, the job count n and the edge count m.
 #[repr(C)]
-#[derive(Drop)]
+#[derive(Clone, Copy)]
 pub struct Counts {
     pub len: u16,
     pub n: u16,
