@@ -53,7 +53,7 @@ pub fn found_number(f: Found) -> usize
 }
 
 // The size of the accepted plan that begins at `at`; 0 where none does.
-#[tactic(auto, using(crate::proofs::Steps::whole_short, crate::proofs::Steps::whole_beyond, crate::proofs::Steps::whole_refused, crate::proofs::Steps::whole_plan))]
+#[tactic(auto, using(crate::proofs::Steps::whole_short, crate::proofs::Steps::whole_beyond, crate::proofs::Steps::whole_refused, crate::proofs::Steps::whole_plan), unfolding(crate::specs::Walk::size_of))]
 fn size_at(store: &[u8], at: usize) -> usize
     requires { at ≤ length store.now }
     ensures { result ≡ whole_at first_edition store.now at }
@@ -73,7 +73,7 @@ fn size_at(store: &[u8], at: usize) -> usize
 }
 
 // Inner: the last whole plan, by the walk from the front; no bytes at 0 where there is none.
-#[tactic(auto, using(crate::proofs::Steps::step_fits, crate::proofs::Steps::step_least, crate::proofs::Steps::step_last, crate::proofs::Steps::step_ends, crate::proofs::Steps::step_first))]
+#[tactic(auto, using(crate::proofs::Steps::step_fits, crate::proofs::Steps::step_least, crate::proofs::Steps::step_first))]
 pub fn last_of(store: &[u8]) -> Span
     ensures { (result ≡ last_in no_span (walk first_edition store.now)) × (end_of result ≤ length store.now) }
 {
