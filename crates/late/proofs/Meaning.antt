@@ -8,7 +8,6 @@ use Rattle.basics.specs.Marks.{idle}
 use lib.ListN.{length, length-replicate}
 use borrow.Author.Tests.{ltb-true}
 use native.Mathlib.Omega.{arith}
-use mathlib.Core.Option.{none}
 use mathlib.Core.Bool.{true}
 use mathlib.Core.List.{List}
 use mathlib.Core.Logic.{inl, inr}

@@ -1,6 +1,6 @@
 -- Late tables, of one level v: the low level is 0, the high level 1. The list is its bytes s.
 -- Assumes nothing.
-use Rattle.std.specs.Prelude.{ℕ, zero, suc, ◌+◌, ◌-◌, List, Bool, true, false, cond, not, ◌&&◌, set, leb, ltb, eqb}
+use Rattle.std.specs.Prelude.{ℕ, zero, suc, ◌+◌, ◌-◌, List, Bool, cond, not, ◌&&◌, set, leb, ltb, eqb}
 use Rattle.basics.specs.Choice.{earliest}
 use Rattle.basics.specs.Turns.{turns}
 use Rattle.basics.specs.Find.{lowest, highest}

@@ -1,4 +1,6 @@
 // The late tables. All functions here are inner ones: they are called on lists that the list's check accepts, and on tables of L bytes.
+#![tactic(auto)]
+
 ghost use Rattle.std.specs.Prelude.{◌≡◌, Bool, true, false, not, ◌&&◌, ℕ, ◌+◌, ◌<◌, ◌≤◌, length, get_or, ltb, leb};
 ghost use Rattle.basics.specs.Choice.{earliest, preferred};
 ghost use Rattle.basics.specs.Find.{lowest, highest};
@@ -34,6 +36,7 @@ pub fn wide16(x: u16) -> usize
 }
 
 // One unit more of job j, where j is one of n jobs.
+#[tactic(auto, unfolding(basics::specs::Units::one_more))]
 pub fn one_more(n: usize, had: [u16; MOST_JOBS], j: usize) -> [u16; MOST_JOBS]
     requires { (n ≤ first_edition.jobs) × ((i : ℕ) → i < n → units_of had i < 65535) }
     ensures { result ≡ one_more (ltb j n) j had }
@@ -62,6 +65,7 @@ pub fn waiting_of(s: &[u8], undone: &[bool; MOST_JOBS]) -> [bool; MOST_JOBS]
 }
 
 // The units that job j takes in the late table of level v.
+#[tactic(auto, unfolding(crate::specs::Late::takes))]
 fn takes_of(s: &[u8], v: usize, j: usize) -> usize
     requires { Accepted first_edition s.now × (j < jobs s.now) }
     ensures { result ≡ takes s.now v j }
@@ -152,6 +156,7 @@ fn edf(s: &[u8], v: usize, out: &mut [u8])
 }
 
 // The lowest undone job whose deadline is slot t.
+#[tactic(auto, using(crate::proofs::Lateness::late_hit, crate::proofs::Lateness::late_other, crate::proofs::Lateness::late_done, crate::proofs::Lateness::late_end))]
 fn late_in(s: &[u8], undone: &[bool; MOST_JOBS], t: usize) -> Late
     requires { Accepted first_edition s.now }
     ensures { result ≡ turns or_else Fine (late_at s.now (marked undone.now) t) (jobs s.now) 0 }
@@ -201,6 +206,7 @@ fn next_of(s: &[u8], j: usize) -> [bool; MOST_JOBS]
 }
 
 // The lowest slot below the deadline of job j that is held by a successor, or the deadline.
+#[tactic(auto, using(basics::proofs::Find::lowest_hit, basics::proofs::Find::lowest_skip, basics::proofs::Find::lowest_end, joblist::proofs::Accepted::deadline_in_frame))]
 fn limit_of(s: &[u8], table: &[u8], j: usize) -> usize
     requires { Accepted first_edition s.now × (length table.now ≡ slots s.now) × (j < jobs s.now) }
     ensures { result ≡ lowest (holds_next s.now table.now j) (deadline s.now j) 0 }
@@ -220,6 +226,7 @@ fn limit_of(s: &[u8], table: &[u8], j: usize) -> usize
 }
 
 // The highest empty slot below b, or t.
+#[tactic(auto, using(basics::proofs::Find::highest_zero, basics::proofs::Find::highest_step))]
 fn highest_empty(s: &[u8], table: &[u8], b: usize, t: usize) -> usize
     requires { Accepted first_edition s.now × (b ≤ length table.now) }
     ensures { result ≡ highest (empty s.now table.now) t b }

@@ -2,7 +2,7 @@
 -- Assumes nothing.
 use Rattle.joblist.specs.Accepted.{Accepted}
 use Rattle.basics.specs.Limits.{Limits}
-use Rattle.joblist.specs.Fields.{jobs, slots, ordinary, high}
+use Rattle.joblist.specs.Fields.{jobs, slots, ordinary}
 use Rattle.basics.specs.Find.{lowest}
 use Rattle.basics.specs.Marks.{idle}
 use lib.Dec.{eqb, ltb}

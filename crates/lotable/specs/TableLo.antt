@@ -1,9 +1,9 @@
 -- Table LO, slot t from 0, out of the late tables TLO and THI.
 -- Assumes nothing.
-use Rattle.std.specs.Prelude.{ℕ, zero, suc, ◌+◌, List, Bool, true, false, cond, not, ◌&&◌, set, leb, ltb}
+use Rattle.std.specs.Prelude.{ℕ, zero, suc, ◌+◌, List, Bool, cond, not, ◌&&◌, set, leb, ltb}
 use Rattle.basics.specs.Find.{lowest}
 use Rattle.basics.specs.Turns.{turns}
-use Rattle.joblist.specs.Fields.{jobs, slots, arrival, ordinary}
+use Rattle.joblist.specs.Fields.{slots, arrival, ordinary}
 use Rattle.basics.specs.Marks.{idle}
 use Rattle.late.specs.Table.{entry, units, all_idle, held, waits}
 use Rattle.late.specs.Late.{tlo, thi}

@@ -1,4 +1,6 @@
 // Table LO. All functions here are inner ones: they are called on lists that the list's check accepts, and on tables of L bytes.
+#![tactic(auto)]
+
 ghost use Rattle.std.specs.Prelude.{◌≡◌, Bool, true, false, ℕ, ◌+◌, ◌<◌, ◌≤◌, length, ltb};
 ghost use Rattle.basics.specs.Find.{lowest};
 ghost use Rattle.basics.specs.Units.{units_of};
@@ -42,6 +44,7 @@ fn unplaced_of(s: &[u8], placed: &[u16; MOST_JOBS]) -> [bool; MOST_JOBS]
 }
 
 // Whether the unit in slot k of a late table may be taken at t.
+#[tactic(auto, unfolding(crate::specs::TableLo::fits))]
 fn fits_at(s: &[u8], waiting: &[bool; MOST_JOBS], table: &[u8], t: usize, k: usize) -> bool
     requires { Accepted first_edition s.now × (k < length table.now) }
     ensures { result ≡ fits s.now (marked waiting.now) table.now t k }
@@ -57,6 +60,7 @@ fn fits_at(s: &[u8], waiting: &[bool; MOST_JOBS], table: &[u8], t: usize, k: usi
 }
 
 // The lowest slot after t of a late table whose unit may be taken at t, or L.
+#[tactic(auto, using(basics::proofs::Find::lowest_hit, basics::proofs::Find::lowest_skip, basics::proofs::Find::lowest_end))]
 fn first_fit(s: &[u8], waiting: &[bool; MOST_JOBS], table: &[u8], t: usize) -> usize
     requires { Accepted first_edition s.now × (length table.now ≡ slots s.now) × (t < slots s.now) }
     ensures { result ≡ lowest (fits s.now (marked waiting.now) table.now t) (slots s.now) (t + 1) }
@@ -71,6 +75,7 @@ fn first_fit(s: &[u8], waiting: &[bool; MOST_JOBS], table: &[u8], t: usize) -> u
 }
 
 // The unit for a slot at which neither late table holds a job.
+#[tactic(auto, unfolding(crate::specs::TableLo::later))]
 fn later_of(s: &[u8], waiting: &[bool; MOST_JOBS], low: &[u8], high: &[u8], t: usize) -> Pick
     requires { Accepted first_edition s.now × (length low.now ≡ slots s.now) × (length high.now ≡ slots s.now) × (t < slots s.now) }
     ensures { result ≡ later s.now (marked waiting.now) low.now high.now t }
@@ -88,6 +93,7 @@ fn later_of(s: &[u8], waiting: &[bool; MOST_JOBS], low: &[u8], high: &[u8], t: u
 }
 
 // The unit for slot t.
+#[tactic(auto, unfolding(crate::specs::TableLo::pick))]
 fn pick_at(s: &[u8], waiting: &[bool; MOST_JOBS], low: &[u8], high: &[u8], t: usize) -> Pick
     requires { Accepted first_edition s.now × (length low.now ≡ slots s.now) × (length high.now ≡ slots s.now) × (t < slots s.now) }
     ensures { result ≡ pick s.now (marked waiting.now) low.now high.now t }
@@ -112,9 +118,9 @@ fn pick_at(s: &[u8], waiting: &[bool; MOST_JOBS], low: &[u8], high: &[u8], t: us
 // Table LO into out, and what is left of the late tables; up to the first slot with 22 or 23.
 pub fn table_lo(s: &[u8], low: &mut [u8], high: &mut [u8], out: &mut [u8]) -> Clash
     requires { Accepted first_edition s.now × (length low.old ≡ slots s.now) × (length high.old ≡ slots s.now) × (length out.old ≡ slots s.now) }
-    ensures { (result ≡ clash_in s.now (record { low = low.entry.now; high = high.old; lo = out.old }))
-        × (record { low = low.exit.now; high = high.new; lo = out.new }
-        ≡ tables_at s.now (record { low = low.entry.now; high = high.old; lo = out.old }) (before (slots s.now) result)) }
+    ensures { (result ≡ clash_in s.now (record { low = low.old; high = high.old; lo = out.old }))
+        × (record { low = low.new; high = high.new; lo = out.new }
+        ≡ tables_at s.now (record { low = low.old; high = high.old; lo = out.old }) (before (slots s.now) result)) }
 {
     let n = jobs_of(s);
     let l = out.len();

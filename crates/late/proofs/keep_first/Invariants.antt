@@ -1,0 +1,10 @@
+-- Below slot t only first units stay, and from t on the table is as it was.
+-- Assumes nothing.
+use Rattle.std.proofs.Common.{◌≡◌}
+use Rattle.joblist.specs.Fields.{jobs}
+use Rattle.late.specs.Late.{first_units}
+use Rattle.late.proofs.Units.{Counted}
+use Rattle.late.proofs.keep_first.Given as goal
+
+abbrev pub invariant-loop-t : goal.invariant-loop-t
+invariant-loop-t l = (l.table ≡ first_units l.s l.initial.table l.t) × Counted (jobs l.s) l.had l.initial.table l.t
