@@ -115,4 +115,4 @@ module _ (lim : Limits) where
   unfolding answers_by
   never_37 s v [] = tt
   never_37 s v (g ∷ r) =
-      (sound_answer s g.tick g.ended v, never_37 _ (sound_stays s g.tick g.ended v) r)
+      (sound_answer s g.tick g.ended v, never_37 (step_of lim s g.tick g.ended).state (sound_stays s g.tick g.ended v) r)
