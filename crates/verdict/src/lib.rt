@@ -1,4 +1,6 @@
 // The check of a list and its two tables.
+#![tactic(auto)]
+
 ghost use Rattle.std.specs.Prelude.{◌≡◌, not, ◌||◌, eqb, ltb};
 ghost use Rattle.basics.specs.Marks.{idle};
 ghost use Rattle.basics.specs.Limits.{first_edition};
@@ -168,6 +170,7 @@ fn check_tables(list: &[u8], lo: &[u8], hi: &[u8]) -> Verdict
 }
 
 // The check of a list and two tables.
+#[tactic(auto, unfolding(crate::specs::Answer::check_of))]
 pub fn check(list: &[u8], lo: &[u8], hi: &[u8]) -> Verdict
     ensures { result ≡ check_of first_edition list.now lo.now hi.now }
 {
