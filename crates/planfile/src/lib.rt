@@ -141,7 +141,7 @@ pub fn wrote_place(a: Wrote) -> Spot
 }
 
 // Puts the bytes of s into out from `at` on.
-#[tactic(auto, using(basics::proofs::Put::put_none, basics::proofs::Put::put_more))]
+#[tactic(auto, using(basics::proofs::Put::put_none))]
 fn copy_at(out: &mut [u8], at: usize, s: &[u8])
     requires { at + length s.now ≤ length out.old }
     ensures { out.new ≡ put out.old at s.now }
@@ -186,7 +186,7 @@ pub fn put_plan(list: &[u8], lo: &[u8], hi: &[u8], out: &mut [u8]) -> usize
 }
 
 // Writes the plan at the front of `out`, where the check says yes and there is room; no byte changes otherwise.
-#[tactic(auto, using(crate::proofs::Rows::write_check, crate::proofs::Rows::write_room, crate::proofs::Rows::write_plan, crate::proofs::Written::plan_length, crate::proofs::Accepted::pair_fits))]
+#[tactic(auto, using(crate::proofs::Accepted::pair_fits))]
 pub fn write(list: &[u8], lo: &[u8], hi: &[u8], out: &mut [u8]) -> Wrote
     ensures { (result ≡ write_of first_edition list.now lo.now hi.now (length out.old))
         × (out.new ≡ out_after first_edition list.now lo.now hi.now out.old) }
@@ -315,7 +315,7 @@ fn read_parts(plan: &[u8]) -> ReadAnswer
 }
 
 // What the bytes of a slice are: a plan, with its counts, or why not.
-#[tactic(auto, using(crate::proofs::Rows::read_short, crate::proofs::Rows::read_mark, crate::proofs::Rows::read_distance, crate::proofs::Rows::read_rest))]
+#[tactic(auto, using(crate::proofs::Rows::read_short, crate::proofs::Rows::read_mark, crate::proofs::Rows::read_distance, crate::proofs::Rows::read_rest), unfolding(basics::specs::Bytes::u32_at))]
 pub fn read(plan: &[u8]) -> ReadAnswer
     ensures { result ≡ read_of first_edition plan.now }
 {
