@@ -109,7 +109,7 @@ fn fewer(a: usize, b: usize) -> usize
 }
 
 // Zeroes k bytes of the store, from its last byte back.
-#[tactic(auto, using(crate::proofs::Writes::after_none, crate::proofs::Writes::zero_step))]
+#[tactic(auto, using(crate::proofs::Writes::after_none))]
 fn zero_back(store: &mut [u8], end: usize, k: usize)
     requires { (end ≤ length store.old) × (k ≤ length store.old - end) }
     ensures { store.new ≡ after store.old (take k (zeros end (length store.old - end))) }
@@ -121,7 +121,7 @@ fn zero_back(store: &mut [u8], end: usize, k: usize)
 }
 
 // Writes k bytes of the plan from `at` on, forwards.
-#[tactic(auto, using(crate::proofs::Writes::after_none, crate::proofs::Writes::copy_step))]
+#[tactic(auto, using(crate::proofs::Writes::after_none))]
 fn copy_on(store: &mut [u8], at: usize, plan: &[u8], k: usize)
     requires { (at + length plan.now ≤ length store.old) × (k ≤ length plan.now) }
     ensures { store.new ≡ after store.old (take k (copies at plan.now)) }

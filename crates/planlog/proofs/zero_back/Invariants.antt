@@ -5,4 +5,4 @@ use Rattle.planlog.specs.Writes.{zeros, after}
 use Rattle.planlog.proofs.zero_back.Given as goal
 
 abbrev pub invariant-loop-i : goal.invariant-loop-i
-invariant-loop-i l = (length l.store ≡ length l.initial.store) × (l.store ≡ after l.initial.store (take l.i (zeros l.end (length l.initial.store - l.end))))
+invariant-loop-i l = l.store ≡ after l.initial.store (take l.i (zeros l.end (length l.initial.store - l.end)))
