@@ -2,13 +2,19 @@
 //
 // Nothing is asked of a caller, and no piece is left out: one that is longer than a page goes by itself. Blanks are held
 // back until something follows them, so that no line ends in one.
+#![tactic(auto)]
+
 mod number;
 
 ghost use Rattle.std.specs.Prelude.{◌<◌};
 
-use libc::{STDERR_FILENO, STDOUT_FILENO};
 pub use number::{after, less, lower, plus};
 use text::part;
+
+// Standard output and standard error, as the system counts them.
+const OUTPUT: i32 = 1;
+
+const ERRORS: i32 = 2;
 
 // The bytes of a page.
 const ROOM: usize = 1024;
@@ -39,12 +45,12 @@ impl Page {
 
     // A page for standard output.
     pub fn output() -> Self {
-        Page::new(STDOUT_FILENO)
+        Page::new(OUTPUT)
     }
 
     // A page for standard error.
     pub fn errors() -> Self {
-        Page::new(STDERR_FILENO)
+        Page::new(ERRORS)
     }
 
     // Sends bytes past the page. After a loss no more is sent.
@@ -58,7 +64,8 @@ impl Page {
     // Sends what is gathered.
     pub fn sent(self) -> Self {
         let bytes = self.bytes;
-        let mut page = self.passed(part(&bytes, 0, self.size));
+        let size = self.size;
+        let mut page = self.passed(part(&bytes, 0, size));
         page.size = 0;
         page
     }
@@ -73,11 +80,12 @@ impl Page {
 
     // The bytes, on this page or on the next, or by themselves.
     fn added(self, s: &[u8]) -> Self {
+        let size = self.size;
         let page = self.placed(s);
-        if page.size != self.size {
+        if page.size != size {
             return page;
         }
-        let next = self.sent();
+        let next = page.sent();
         if ROOM < s.len() {
             return next.passed(s);
         }
@@ -95,7 +103,8 @@ impl Page {
 
     // The blanks that were held back, now that something follows.
     fn spaced(self) -> Self {
-        self.repeated(b" ", self.blanks).trimmed()
+        let blanks = self.blanks;
+        self.repeated(b" ", blanks).trimmed()
     }
 
     // Puts bytes.
