@@ -9,12 +9,8 @@ mod number;
 ghost use Rattle.std.specs.Prelude.{◌<◌};
 
 pub use number::{after, less, lower, plus};
+use std::io::{Error, IsTerminal};
 use text::part;
-
-// Standard output and standard error, as the system counts them.
-const OUTPUT: i32 = 1;
-
-const ERRORS: i32 = 2;
 
 // The bytes of a page.
 const ROOM: usize = 1024;
@@ -22,41 +18,61 @@ const ROOM: usize = 1024;
 // How many bytes are spelled in hex at a time.
 const HEX_PIECE: usize = 256;
 
-// What is gathered; how many blanks are held back after it; where it goes, and whether some of it did not get there.
+// Where a page goes.
+#[derive(Clone, Copy)]
+enum Way {
+    Output,
+    Errors,
+}
+
+// What is gathered; how many blanks are held back after it; the system and where in it the page goes; and why some of it did
+// not get there.
 #[derive(Drop)]
 pub struct Page {
     bytes: [u8; ROOM],
     size: usize,
     blanks: usize,
-    to: i32,
-    is_lost: bool,
+    rt: HostRuntime,
+    to: Way,
+    lost: Option<Error>,
 }
 
 impl Page {
-    fn new(to: i32) -> Self {
+    fn new(rt: HostRuntime, to: Way) -> Self {
         Page {
             bytes: [0u8; ROOM],
             size: 0,
             blanks: 0,
+            rt: rt,
             to: to,
-            is_lost: false,
+            lost: None,
         }
     }
 
     // A page for standard output.
-    pub fn output() -> Self {
-        Page::new(OUTPUT)
+    pub fn output(rt: &HostRuntime) -> Self {
+        Page::new(*rt, Way::Output)
     }
 
     // A page for standard error.
-    pub fn errors() -> Self {
-        Page::new(ERRORS)
+    pub fn errors(rt: &HostRuntime) -> Self {
+        Page::new(*rt, Way::Errors)
+    }
+
+    // An empty page for standard error.
+    pub fn aside(&self) -> Self {
+        Page::new(self.rt, Way::Errors)
+    }
+
+    // Whether standard output is a terminal.
+    pub fn is_terminal(&self) -> bool {
+        self.rt.stdout().is_terminal()
     }
 
     // Sends bytes past the page. After a loss no more is sent.
     fn passed(mut self, s: &[u8]) -> Self {
-        if !self.is_lost {
-            self.is_lost = !io::write_all(self.to, s);
+        if self.lost.is_none() {
+            self.lost = write(&self.rt, self.to, s);
         }
         self
     }
@@ -195,9 +211,22 @@ impl Page {
         page.put(b"s")
     }
 
+    // Sends the rest; why some of the text did not get there.
+    pub fn loss(self) -> Option<Error> {
+        self.sent().lost
+    }
+
     // Sends the rest; whether all of the text got there.
     pub fn done(self) -> bool {
-        !self.sent().is_lost
+        self.loss().is_none()
+    }
+}
+
+// Writes bytes; why not all of them were written.
+fn write(rt: &HostRuntime, to: Way, s: &[u8]) -> Option<Error> {
+    match to {
+        Way::Output => rt.stdout().write_all(s).err(),
+        Way::Errors => rt.stderr().write_all(s).err(),
     }
 }
 
