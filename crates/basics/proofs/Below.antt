@@ -11,7 +11,6 @@ use native.Mathlib.Omega.{arith}
 use native.Mathlib.Decide.{ℕ_discrete}
 use borrow.Author.Tests.{eq-eqb, ne_eqb}
 use lib.ListN.{get_or}
-use lib.Dec.{eqb}
 use Rattle.basics.specs.Below.{count_below, entries_before, any_below, all_below, all_of}
 use Rattle.basics.proofs.Tests.{and_left, and_right, or_right}
 

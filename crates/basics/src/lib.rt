@@ -1,1 +1,3 @@
+#![tactic(auto)]
+
 // The words that all definitions share, each with its laws; no code.

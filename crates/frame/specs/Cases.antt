@@ -1,6 +1,6 @@
 -- Frames written out, so that the worked lines of document 01 compute.
 -- Assumes nothing.
-use Rattle.std.specs.Prelude.{Bool, true, false, ◌&&◌, ◌||◌, List, [], ◌∷◌, ℕ, max, eqb, get_or, length}
+use Rattle.std.specs.Prelude.{Bool, false, ◌&&◌, ◌||◌, List, [], ◌∷◌, ℕ, max, eqb, get_or, length}
 use Rattle.frame.specs.Jobs.{Frame}
 
 -- a job: arrival, deadline, level, and a budget for each mode

@@ -8,7 +8,7 @@ use borrow.Author.Tests.{leb-true, eqb-true}
 use Rattle.basics.specs.Limits.{Limits}
 use Rattle.joblist.specs.Fields.{high}
 use Rattle.joblist.specs.Cycle.{Named}
-use Rattle.joblist.specs.Answer.{each, counts_answer, fields_answer, job_answer, edge_answer, rising}
+use Rattle.joblist.specs.Answer.{each, counts_answer, fields_answer, job_answer, edge_answer}
 use Rattle.joblist.specs.Accepted.{Job, GoodEdge}
 use Rattle.joblist.specs.declared.ListAnswer.TheVariants.{Good}
 use Rattle.joblist.proofs.Chain.{need_good, row_good, each_good}

@@ -1,4 +1,6 @@
 // A job list in bytes: its fields, its limits, and the check that refuses what is no list.
+#![tactic(auto)]
+
 ghost use Rattle.std.specs.Prelude.{◌≡◌, Bool, true, false, ℕ, ◌+◌, ◌<◌, ◌≤◌, length, get_or};
 ghost use Rattle.basics.specs.Bytes.{u16_at};
 ghost use Rattle.basics.specs.Limits.{first_edition};
@@ -131,6 +133,7 @@ pub fn wide(x: u8) -> usize
 }
 
 // The 16 bits at i.
+#[tactic(auto, unfolding(basics::specs::Bytes::u16_at))]
 pub fn u16_at(s: &[u8], i: usize) -> usize
     requires { i + 1 < length s.now }
     ensures { (result ≡ u16_at s.now i) × (result < 65536) }
@@ -212,6 +215,7 @@ pub fn edge_to(s: &[u8], n: usize, e: usize) -> usize
 }
 
 // Whether edge e comes after the edge before it.
+#[tactic(auto, unfolding(crate::specs::Answer::rising))]
 fn rises(s: &[u8], n: usize, e: usize) -> bool
     requires { edge_at n e + edge_bytes ≤ length s.now }
     ensures { result ≡ rising s.now n e }
@@ -234,6 +238,7 @@ fn rises(s: &[u8], n: usize, e: usize) -> bool
 }
 
 // Whether x is from 1 to most.
+#[tactic(auto, unfolding(crate::specs::Answer::within))]
 fn in_range(x: usize, most: usize) -> bool
     ensures { result ≡ within most x }
 {
@@ -247,6 +252,7 @@ fn in_range(x: usize, most: usize) -> bool
 }
 
 // The counts, and the zero beside them.
+#[tactic(auto, unfolding(crate::specs::Answer::counts_answer))]
 fn check_counts(len: usize, whole: usize, n: usize, m: usize, l: usize, z: usize) -> ListAnswer
     ensures { result ≡ counts_answer first_edition len whole n m l z }
 {
@@ -269,6 +275,7 @@ fn check_counts(len: usize, whole: usize, n: usize, m: usize, l: usize, z: usize
 }
 
 // The zero bytes of the jobs.
+#[tactic(auto, using(crate::proofs::Chain::turn_good, crate::proofs::Chain::turn_no, crate::proofs::Chain::turn_end), unfolding(crate::specs::Answer::zero_answer))]
 fn check_zeros(s: &[u8], n: usize) -> ListAnswer
     requires { job_at n ≤ length s.now }
     ensures { result ≡ each n (zero_answer s.now) }
@@ -282,6 +289,7 @@ fn check_zeros(s: &[u8], n: usize) -> ListAnswer
 }
 
 // Whether a job may arrive at a and end by d.
+#[tactic(auto, unfolding(crate::specs::Answer::good_times))]
 fn good_times(a: usize, d: usize) -> bool
     ensures { result ≡ good_times first_edition a d }
 {
@@ -295,6 +303,7 @@ fn good_times(a: usize, d: usize) -> bool
 }
 
 // Whether a job of level v may have the budgets lo and hi.
+#[tactic(auto, unfolding(crate::specs::Answer::good_budgets))]
 fn good_budgets(v: usize, lo: usize, hi: usize) -> bool
     ensures { result ≡ good_budgets first_edition v lo hi }
 {
@@ -317,6 +326,7 @@ fn good_budgets(v: usize, lo: usize, hi: usize) -> bool
 }
 
 // The fields of job j.
+#[tactic(auto, unfolding(crate::specs::Answer::fields_answer))]
 fn check_fields(j: usize, v: usize, a: usize, d: usize, lo: usize, hi: usize) -> ListAnswer
     ensures { result ≡ fields_answer first_edition j v a d lo hi }
 {
@@ -347,6 +357,7 @@ fn check_job(s: &[u8], j: usize) -> ListAnswer
 }
 
 // The jobs.
+#[tactic(auto, using(crate::proofs::Chain::turn_good, crate::proofs::Chain::turn_no, crate::proofs::Chain::turn_end))]
 fn check_jobs(s: &[u8], n: usize) -> ListAnswer
     requires { job_at n ≤ length s.now }
     ensures { result ≡ each n (job_answer first_edition (high s.now) s.now) }
@@ -361,6 +372,7 @@ fn check_jobs(s: &[u8], n: usize) -> ListAnswer
 }
 
 // The largest deadline.
+#[tactic(auto, using(crate::proofs::Steps::largest_zero, crate::proofs::Steps::largest_step))]
 fn largest_of(s: &[u8], n: usize) -> usize
     requires { job_at n ≤ length s.now }
     ensures { result ≡ largest s.now n }
@@ -376,6 +388,7 @@ fn largest_of(s: &[u8], n: usize) -> usize
 }
 
 // Whether an edge may go from p to q.
+#[tactic(auto, unfolding(crate::specs::Answer::good_pair))]
 fn good_pair(n: usize, p: usize, q: usize, in_order: bool) -> bool
     ensures { result ≡ good_pair n p q in_order }
 {
@@ -392,6 +405,7 @@ fn good_pair(n: usize, p: usize, q: usize, in_order: bool) -> bool
 }
 
 // One edge.
+#[tactic(auto, unfolding(crate::specs::Answer::edge_answer, crate::specs::Answer::good_pair))]
 fn check_edge(s: &[u8], n: usize, e: usize) -> ListAnswer
     requires { edge_at n e + edge_bytes ≤ length s.now }
     ensures { result ≡ edge_answer s.now n e }
@@ -408,6 +422,7 @@ fn check_edge(s: &[u8], n: usize, e: usize) -> ListAnswer
 }
 
 // The edges.
+#[tactic(auto, using(crate::proofs::Chain::turn_good, crate::proofs::Chain::turn_no, crate::proofs::Chain::turn_end))]
 fn check_edges(s: &[u8], n: usize, m: usize) -> ListAnswer
     requires { list_bytes n m ≤ length s.now }
     ensures { result ≡ each m (edge_answer s.now n) }
@@ -456,6 +471,7 @@ fn cyclic_of(s: &[u8], n: usize, m: usize) -> bool
 }
 
 // What follows the head.
+#[tactic(auto, unfolding(crate::specs::Answer::body_answer))]
 fn check_body(s: &[u8], n: usize, m: usize) -> ListAnswer
     requires { (n ≤ first_edition.jobs) × (list_bytes n m ≤ length s.now) }
     ensures { result ≡ body_answer first_edition (high s.now) s.now n m }
@@ -482,6 +498,7 @@ fn check_body(s: &[u8], n: usize, m: usize) -> ListAnswer
 }
 
 // Inner: a list at the front of the bytes, where the counts give `whole` bytes. A plan is checked by it too.
+#[tactic(auto, using(crate::proofs::Rows::counts_good), unfolding(crate::specs::Answer::front_answer))]
 pub fn check_front(s: &[u8], whole: usize) -> ListAnswer
     requires { (head_bytes ≤ length s.now) × (list_bytes (jobs s.now) (edges s.now) ≤ whole) }
     ensures { result ≡ front_answer first_edition (high s.now) s.now whole }
@@ -496,6 +513,7 @@ pub fn check_front(s: &[u8], whole: usize) -> ListAnswer
 }
 
 // The whole list.
+#[tactic(auto, unfolding(crate::specs::Answer::list_answer))]
 pub fn check_list(list: &[u8]) -> ListAnswer
     ensures { result ≡ list_answer first_edition list.now }
 {

@@ -52,6 +52,7 @@ impl Plan {
     pub const HIGH: u16 = 1;
 
     // All zero.
+    #[tactic(auto, unfolding(crate::specs::Plan::no_plan))]
     pub fn zero() -> Self
         ensures { result ≡ no_plan first_edition }
     {
