@@ -1,9 +1,9 @@
 // Lines in, lines out: what is read stays in the input until its line ends.
 use crate::call;
 use crate::reply::{Desk, reply};
-use libc::STDIN_FILENO;
 use page::{Page, less, lower, plus};
 use requests::{MOST_LINE, MOST_STORE, decode, request_of};
+use std::io::{Read, Stdin};
 use text::{find, part};
 
 // All that a line's digits can say.
@@ -28,9 +28,9 @@ struct Run {
 }
 
 // Before the first open the state is all zero, and before the first store there is none.
-fn fresh() -> Run {
+fn fresh(rt: &HostRuntime) -> Run {
     let desk = Desk {
-        page: Page::output(),
+        page: Page::output(rt),
         state: call::zero(),
         size: 0,
     };
@@ -77,12 +77,11 @@ fn end_last(input: &mut [u8], held: usize) -> usize {
 }
 
 // Reads behind the bytes that are kept: how many there are then, 0 when all of the input was taken.
-fn read_behind(input: &mut [u8], held: usize) -> usize {
+fn read_behind(mut from: Stdin, input: &mut [u8], held: usize) -> usize {
     if input.len() < held {
         return 0;
     }
-    let got = libc::read(STDIN_FILENO, &mut input[held..]);
-    let n = io::count(got, &input[held..]);
+    let n = from.read(&mut input[held..]).unwrap_or(0);
     if n == 0 {
         return end_last(input, held);
     }
@@ -110,8 +109,8 @@ fn keep(input: &mut [u8], from: usize, size: usize) -> usize {
 }
 
 // One read, with the answers to what it ends.
-fn turn(run: Run, input: &mut [u8], room: &mut [u8], store: &mut [u8]) -> Run {
-    let size = read_behind(input, run.held);
+fn turn(from: Stdin, run: Run, input: &mut [u8], room: &mut [u8], store: &mut [u8]) -> Run {
+    let size = read_behind(from, input, run.held);
     let t = take_lines(run.desk, part(input, 0, size), room, store);
     let desk = t.desk;
     Run {
@@ -122,10 +121,10 @@ fn turn(run: Run, input: &mut [u8], room: &mut [u8], store: &mut [u8]) -> Run {
 }
 
 // Reads to the end of the input. A proved loop ends, and nothing says that the input does: so turns are counted, to a number that no run reaches.
-fn take_all(start: Run, input: &mut [u8], room: &mut [u8], store: &mut [u8]) {
+fn take_all(from: Stdin, start: Run, input: &mut [u8], room: &mut [u8], store: &mut [u8]) {
     let mut run = start;
     for i in 0..u64::MAX {
-        run = turn(run, input, room, store);
+        run = turn(from, run, input, room, store);
         if run.is_over {
             return;
         }
@@ -133,9 +132,9 @@ fn take_all(start: Run, input: &mut [u8], room: &mut [u8], store: &mut [u8]) {
 }
 
 // The whole run.
-pub(crate) fn answer_all() {
+pub(crate) fn answer_all(rt: &HostRuntime) {
     let mut input = [0u8; INPUT];
     let mut room = [0u8; MOST_DECODED];
     let mut store = [0u8; MOST_STORE];
-    take_all(fresh(), &mut input, &mut room, &mut store);
+    take_all(rt.stdin(), fresh(rt), &mut input, &mut room, &mut store);
 }

@@ -29,15 +29,15 @@ impl Desk {
     }
 
     // With one more answer, and the state that it shows.
-    fn stated(mut self, page: Page, state: State) -> Self {
-        self.page = put_state(page, state);
+    fn stated(mut self, state: State) -> Self {
+        self.page = put_state(self.page, state);
         self.state = state;
         self
     }
 
     // With one more answer.
-    fn answered(mut self, page: Page) -> Self {
-        self.page = page.end();
+    fn answered(mut self) -> Self {
+        self.page = self.page.end();
         self
     }
 }
@@ -100,14 +100,14 @@ fn reply_count(page: Page, table: &[u8], job: usize, slot: usize) -> Page {
     page.put(b"0 count=").number(count)
 }
 
-fn reply_open(d: Desk, plan: &[u8], first: usize) -> Desk {
+fn reply_open(mut d: Desk, plan: &[u8], first: usize) -> Desk {
     let o = call::open(plan, first);
     let a = o.answer;
-    let next = put_spot(
+    d.page = put_spot(
         d.page.number(planfile::read_number(a)),
         planfile::read_place(a),
     );
-    d.stated(next, o.state)
+    d.stated(o.state)
 }
 
 // The order, or the place of a refusal.
@@ -118,15 +118,17 @@ fn put_order(page: Page, a: Answer) -> Page {
     }
 }
 
-fn reply_step(d: Desk, tick: usize, ended: usize) -> Desk {
+fn reply_step(mut d: Desk, tick: usize, ended: usize) -> Desk {
     let r = call::step(d.state, tick, ended);
     let a = r.answer;
-    let next = put_order(d.page.number(machine::answer::answer_number(a)), a);
-    d.stated(next, r.state)
+    d.page = put_order(d.page.number(machine::answer::answer_number(a)), a);
+    d.stated(r.state)
 }
 
-fn reply_poke(d: Desk, f: usize, i: usize, v: usize) -> Desk {
-    d.stated(d.page.put(b"0"), poked(d.state, f, i, v))
+fn reply_poke(mut d: Desk, f: usize, i: usize, v: usize) -> Desk {
+    let state = poked(d.state, f, i, v);
+    d.page = d.page.put(b"0");
+    d.stated(state)
 }
 
 // A request of the log, on the bytes that the store has for it.
@@ -136,7 +138,8 @@ fn reply_log(mut d: Desk, r: LogRequest, bytes: &[u8], store: &mut [u8]) -> Desk
         return d;
     }
     d.size = size;
-    d.answered(logreplies::reply(d.page, r, bytes, &mut store[0..size]))
+    d.page = logreplies::reply(d.page, r, bytes, &mut store[0..size]);
+    d.answered()
 }
 
 // A request that leaves the state and the store as they are.
@@ -153,7 +156,7 @@ fn reply_bytes(page: Page, r: Request, list: &[u8], lo: &[u8], hi: &[u8]) -> Pag
 }
 
 // The answer to a request whose bytes are decoded.
-pub(crate) fn reply(d: Desk, r: Request, room: &[u8], b: Decoded, store: &mut [u8]) -> Desk {
+pub(crate) fn reply(mut d: Desk, r: Request, room: &[u8], b: Decoded, store: &mut [u8]) -> Desk {
     let list = part(room, 0, b.list);
     let lo = part(room, b.list, b.lo);
     let hi = part(room, b.lo, b.hi);
@@ -162,6 +165,9 @@ pub(crate) fn reply(d: Desk, r: Request, room: &[u8], b: Decoded, store: &mut [u
         Request::Step(tick, ended) => reply_step(d, tick, ended),
         Request::Poke(f, i, v) => reply_poke(d, f, i, v),
         Request::Log(l) => reply_log(d, l, list, store),
-        _ => d.answered(reply_bytes(d.page, r, list, lo, hi)),
+        _ => {
+            d.page = reply_bytes(d.page, r, list, lo, hi);
+            d.answered()
+        }
     }
 }

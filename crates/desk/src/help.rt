@@ -28,6 +28,6 @@ TICKS has a line a tick, 0 to 65535, and the word end after it where the job tha
 was ordered last has ended. The first tick opens the plan.
 ";
 
-pub(crate) fn say() {
-    send(Page::output().put(&HELP));
+pub(crate) fn say(rt: &HostRuntime) {
+    send(Page::output(rt).put(&HELP));
 }

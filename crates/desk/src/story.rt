@@ -63,9 +63,9 @@ fn tell_list(page: Page, list: &[u8], names: Names) -> Page {
 }
 
 // desk demo
-pub(crate) fn tell() {
+pub(crate) fn tell(rt: &HostRuntime) {
     let jobs = jobtext::read(&JOBS);
     let list = jobs.list;
     let names = jobs.names;
-    send(tell_list(Page::output(), part(&list, 0, jobs.size), names));
+    send(tell_list(Page::output(rt), part(&list, 0, jobs.size), names));
 }

@@ -18,7 +18,7 @@ const LABEL: usize = 15;
 const NAME: usize = 11;
 
 // What is drawn: a table's slots from one to another, the columns of a slot, and whether in colour.
-#[derive(Drop)]
+#[derive(Clone, Copy)]
 struct View {
     is_high: bool,
     from: usize,

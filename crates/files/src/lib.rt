@@ -1,6 +1,14 @@
 // Files, read whole and written whole; and pages, sent whole.
+#![tactic(auto)]
+
+mod why;
+
 use page::{Page, plus};
+use std::fs;
+use std::fs::OpenOptions;
+use std::io::{Error, Read, Write};
 use text::{part, same};
+pub use why::fail;
 
 // The bytes that are read at most: one more than a file may have.
 pub const MOST: usize = 131072;
@@ -21,13 +29,14 @@ pub struct File {
 pub enum Piece {
     More(usize),
     End,
-    Failed,
+    Failed(Error),
 }
 
 // Sends the rest of a page, and says so where some of it was lost.
 pub fn send(page: Page) {
-    if !page.done() {
-        os::fail(b"desk: standard output");
+    let errors = page.aside();
+    if let Some(e) = page.loss() {
+        fail(errors, b"desk: standard output", e);
     }
 }
 
@@ -36,44 +45,79 @@ pub fn complain(page: Page) {
     page.done();
 }
 
+// The error of a path that is no text.
+const NO_TEXT: i32 = 84;
+
+// A path as the system takes it.
+fn path_of(path: &[u8]) -> Result<&str, Error> {
+    match str::from_utf8(path) {
+        Ok(s) => Ok(s),
+        Err(_) => Err(Error::from_raw_os_error(NO_TEXT)),
+    }
+}
+
+// Opens a file to read it.
+pub fn open(rt: &HostRuntime, path: &[u8]) -> Result<fs::File, Error> {
+    fs::File::open(rt, path_of(path)?)
+}
+
+// Opens a file to read it and to write over its bytes.
+pub fn open_update(rt: &HostRuntime, path: &[u8]) -> Result<fs::File, Error> {
+    let mut how = OpenOptions::new();
+    how.read(true).write(true);
+    how.open(rt, path_of(path)?)
+}
+
+// Makes a file that is not there yet, and opens it to write.
+fn open_new(rt: &HostRuntime, path: &[u8]) -> Result<fs::File, Error> {
+    let mut how = OpenOptions::new();
+    how.write(true).create_new(true);
+    how.open(rt, path_of(path)?)
+}
+
 // One read, behind what is there.
-pub fn read_more(fd: i32, buf: &mut [u8], have: usize) -> Piece {
+pub fn read_more(file: &fs::File, buf: &mut [u8], have: usize) -> Piece {
     if buf.len() <= have {
         return Piece::End;
     }
-    let got = libc::read(fd, &mut buf[have..]);
-    if got < 0 {
-        return Piece::Failed;
+    let mut from = file;
+    match from.read(&mut buf[have..]) {
+        Ok(0) => Piece::End,
+        Ok(k) => Piece::More(k),
+        Err(e) => Piece::Failed(e),
     }
-    let k = io::count(got, buf);
-    if k == 0 {
-        return Piece::End;
-    }
-    Piece::More(k)
 }
 
-// Reads to the end, or until the buffer is full; how many bytes, or one more than there can be where a read failed.
-fn read_all(fd: i32, buf: &mut [u8]) -> usize {
+// Reads to the end, or until the buffer is full; how many bytes, or why a read failed.
+fn read_all(file: &fs::File, buf: &mut [u8]) -> Result<usize, Error> {
     let mut have = 0;
     for turn in 0..MOST {
-        match read_more(fd, buf, have) {
+        match read_more(file, buf, have) {
             Piece::More(k) => have = plus(have, k),
-            Piece::End => return have,
-            Piece::Failed => return MOST + 1,
+            Piece::End => return Ok(have),
+            Piece::Failed(e) => return Err(e),
         }
     }
-    have
+    Ok(have)
+}
+
+// The same; one more than there can be where a read failed, and why is said.
+fn read_whole(rt: &HostRuntime, file: &fs::File, path: &[u8], buf: &mut [u8]) -> usize {
+    match read_all(file, buf) {
+        Ok(k) => k,
+        Err(e) => {
+            fail(Page::errors(rt), path, e);
+            MOST + 1
+        }
+    }
 }
 
 // Reads what is open, and leaves it open.
-pub fn read_open(fd: i32, path: &[u8]) -> File {
+pub fn read_open(rt: &HostRuntime, file: &fs::File, path: &[u8]) -> File {
     let mut bytes = [0u8; MOST];
-    let size = read_all(fd, &mut bytes);
-    if MOST < size {
-        os::fail(path);
-    }
+    let size = read_whole(rt, file, path, &mut bytes);
     if size == MOST {
-        let over = Page::errors().put(path);
+        let over = Page::errors(rt).put(path);
         complain(over.line(b": over 131,071 bytes, and no plan and no text of jobs or tables is"));
     }
     File {
@@ -92,62 +136,68 @@ fn unread() -> File {
 }
 
 // Reads a file.
-pub fn read(path: &[u8]) -> File {
-    let fd = os::open_read(path);
-    if fd < 0 {
-        os::fail(path);
-        return unread();
+pub fn read(rt: &HostRuntime, path: &[u8]) -> File {
+    match open(rt, path) {
+        Ok(file) => read_open(rt, &file, path),
+        Err(e) => {
+            fail(Page::errors(rt), path, e);
+            unread()
+        }
     }
-    let file = read_open(fd, path);
-    libc::close(fd);
-    file
 }
 
 // Whether a file is there that has just these bytes.
-pub fn has(path: &[u8], bytes: &[u8]) -> bool {
-    let fd = os::open_read(path);
-    if fd < 0 {
+pub fn has(rt: &HostRuntime, path: &[u8], bytes: &[u8]) -> bool {
+    let Ok(file) = open(rt, path) else {
         return false;
-    }
+    };
     let mut held = [0u8; MOST];
-    let size = read_all(fd, &mut held);
-    libc::close(fd);
+    let size = read_all(&file, &mut held).unwrap_or(MOST + 1);
     same(part(&held, 0, size), bytes)
 }
 
 // Writes all, and has it on the disk.
-fn put_all(fd: i32, bytes: &[u8]) -> bool {
-    if !io::write_all(fd, bytes) {
-        return false;
-    }
-    libc::fsync(fd) == 0
+fn put_all(file: &fs::File, bytes: &[u8]) -> Result<(), Error> {
+    let mut to = file;
+    to.write_all(bytes)?;
+    file.sync_all()
+}
+
+// Takes a file away again.
+fn unlink(rt: &HostRuntime, path: &[u8]) -> Result<(), Error> {
+    fs::remove_file(rt, path_of(path)?)
+}
+
+// Gives a file another name.
+fn rename(rt: &HostRuntime, from: &[u8], to: &[u8]) -> Result<(), Error> {
+    fs::rename(rt, path_of(from)?, path_of(to)?)
 }
 
 // Makes a file of these bytes that is not there yet, whole or not at all.
-fn fill(path: &[u8], bytes: &[u8]) -> bool {
-    let fd = os::create(path);
-    if fd < 0 {
-        os::fail(path);
+fn fill(rt: &HostRuntime, path: &[u8], bytes: &[u8]) -> bool {
+    let made = match open_new(rt, path) {
+        Ok(file) => put_all(&file, bytes),
+        Err(e) => {
+            fail(Page::errors(rt), path, e);
+            return false;
+        }
+    };
+    if let Err(e) = made {
+        fail(Page::errors(rt), path, e);
+        let _ = unlink(rt, path);
         return false;
     }
-    if !put_all(fd, bytes) {
-        os::fail(path);
-        libc::close(fd);
-        os::unlink(path);
-        return false;
-    }
-    libc::close(fd);
     true
 }
 
 // Writes the side file and gives it the path's name.
-fn write_by(side: &[u8], path: &[u8], bytes: &[u8]) -> bool {
-    if !fill(side, bytes) {
+fn write_by(rt: &HostRuntime, side: &[u8], path: &[u8], bytes: &[u8]) -> bool {
+    if !fill(rt, side, bytes) {
         return false;
     }
-    if os::rename(side, path) != 0 {
-        os::fail(path);
-        os::unlink(side);
+    if let Err(e) = rename(rt, side, path) {
+        fail(Page::errors(rt), path, e);
+        let _ = unlink(rt, side);
         return false;
     }
     true
@@ -160,26 +210,26 @@ fn side_of(name: &mut [u8], path: &[u8]) -> usize {
 }
 
 // Says that a file was not written, after it was said why.
-pub fn unwritten(path: &[u8]) {
-    complain(Page::errors().put(path).line(b" was not written"));
+pub fn unwritten(rt: &HostRuntime, path: &[u8]) {
+    complain(Page::errors(rt).put(path).line(b" was not written"));
 }
 
 // Writes a file, whole or not at all: first beside it, as PATH.new, and then by a new name.
-pub fn write(path: &[u8], bytes: &[u8]) -> bool {
+pub fn write(rt: &HostRuntime, path: &[u8], bytes: &[u8]) -> bool {
     let mut name = [0u8; PATH_ROOM];
     let k = side_of(&mut name, path);
-    if write_by(part(&name, 0, k), path, bytes) {
+    if write_by(rt, part(&name, 0, k), path, bytes) {
         return true;
     }
-    unwritten(path);
+    unwritten(rt, path);
     false
 }
 
 // Writes a file that is not there yet: one that is there stays as it is.
-pub fn create(path: &[u8], bytes: &[u8]) -> bool {
-    if fill(path, bytes) {
+pub fn create(rt: &HostRuntime, path: &[u8], bytes: &[u8]) -> bool {
+    if fill(rt, path, bytes) {
         return true;
     }
-    unwritten(path);
+    unwritten(rt, path);
     false
 }

@@ -38,7 +38,7 @@ fn put_expected(page: Page, w: Wrong) -> Page {
 }
 
 // Says where a text is mistaken, and what was expected there.
-pub fn put_mistake(page: Page, path: &[u8], jobs: Jobs) -> Page {
+pub fn put_mistake(page: Page, path: &[u8], jobs: &Jobs) -> Page {
     let wrong = jobs.wrong;
     let at = page.put(path).put(b": line ").number(jobs.line).put(b": ");
     put_expected(at, wrong).end()

@@ -6,7 +6,7 @@ use text::{part, same};
 pub(crate) const MOST_NAME: usize = 32;
 
 // The bytes of each name, and how many they are: none where a job goes by its number.
-#[derive(Drop)]
+#[derive(Clone, Copy)]
 pub struct Names {
     letters: [u8; MOST_JOBS * MOST_NAME],
     sizes: [usize; MOST_JOBS],

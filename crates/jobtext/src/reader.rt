@@ -7,7 +7,7 @@ use page::after;
 use text::{find, part, same};
 
 // What is wrong with a line.
-#[derive(Drop)]
+#[derive(Clone, Copy)]
 pub enum Wrong {
     Nothing,
     Name,
@@ -42,7 +42,7 @@ pub struct Jobs {
 }
 
 // The numbers of one line.
-#[derive(Drop)]
+#[derive(Clone, Copy)]
 struct Job {
     arrival: usize,
     deadline: usize,
@@ -97,7 +97,7 @@ impl Jobs {
     }
 
     // Whether a job has the name already.
-    fn has(self, name: &[u8]) -> bool {
+    fn has(&self, name: &[u8]) -> bool {
         let names = self.names;
         names.job_of(name) < MOST_JOBS
     }
@@ -138,7 +138,7 @@ impl Jobs {
     }
 
     // Whether one job comes before another.
-    fn has_edge(self, p: usize, q: usize) -> bool {
+    fn has_edge(&self, p: usize, q: usize) -> bool {
         let pair = pair_at(p, q);
         if pair < PAIRS {
             return self.edges[pair];
@@ -160,9 +160,10 @@ impl Jobs {
         if !self.has_edge(p, q) {
             return self;
         }
-        let at = edge_at(self.n, self.m);
+        let m = self.m;
+        let at = edge_at(self.n, m);
         let mut jobs = self.set(at, p).set(after(at), q);
-        jobs.m = after(self.m);
+        jobs.m = after(m);
         jobs
     }
 
@@ -177,8 +178,11 @@ impl Jobs {
 
     // The head of the list, now that all is counted.
     fn with_head(self) -> Self {
-        let mut jobs = self.set16(0, self.n).set16(2, self.m).set16(4, self.slots);
-        jobs.size = edge_at(self.n, self.m);
+        let n = self.n;
+        let m = self.m;
+        let slots = self.slots;
+        let mut jobs = self.set16(0, n).set16(2, m).set16(4, slots);
+        jobs.size = edge_at(n, m);
         jobs
     }
 }
@@ -288,7 +292,7 @@ fn job_line(jobs: Jobs, line: &[u8], number: usize) -> Jobs {
 }
 
 // What is wrong with an edge's line, whose jobs are p and q.
-fn edge_wrong(jobs: Jobs, line: &[u8], p: usize, q: usize) -> Wrong {
+fn edge_wrong(jobs: &Jobs, line: &[u8], p: usize, q: usize) -> Wrong {
     if word(line, 2).len() == 0 {
         return Wrong::Edge;
     }
@@ -315,7 +319,7 @@ fn edge_line(jobs: Jobs, line: &[u8], number: usize) -> Jobs {
     let names = jobs.names;
     let p = names.job_of(word(line, 0));
     let q = names.job_of(word(line, 2));
-    let wrong = edge_wrong(jobs, line, p, q);
+    let wrong = edge_wrong(&jobs, line, p, q);
     let Wrong::Nothing = wrong else {
         return jobs.mistaken(wrong, number);
     };

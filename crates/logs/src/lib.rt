@@ -1,11 +1,14 @@
 // The log of plans in a file: its store made, appended to and read.
+#![tactic(auto)]
+
 mod writes;
 
-use files::{complain, send, unwritten};
+use files::{complain, fail, send, unwritten};
 use logtext::{end_of, plan_at};
 use logwalk::{FindWhy, Found, STORE_MOST};
 use page::Page;
 use planlog::Appended;
+use std::fs::File;
 use text::{Decimal, part, same};
 
 // The log's calls by themselves: what they promise is proved where they are made, and no page needs it.
@@ -17,8 +20,8 @@ fn newest_of(store: &[u8]) -> Found {
     logwalk::newest(store)
 }
 
-fn misused() {
-    let page = Page::errors();
+fn misused(rt: &HostRuntime) {
+    let page = Page::errors(rt);
     complain(page.line(b"desk log STORE new BYTES: expected a number BYTES from 1 to 65536"));
 }
 
@@ -39,154 +42,170 @@ fn is_digits(s: &[u8]) -> bool {
     true
 }
 
-fn make_of(path: &[u8], size: usize) {
+fn make_of(rt: &HostRuntime, path: &[u8], size: usize) {
     let zeros = [0u8; STORE_MOST];
     if size == 0 {
-        misused();
+        misused(rt);
         return;
     }
-    if files::create(path, part(&zeros, 0, size)) {
-        send(logtext::put_made(Page::output(), path, size));
+    if files::create(rt, path, part(&zeros, 0, size)) {
+        send(logtext::put_made(Page::output(rt), path, size));
     }
 }
 
 // desk log STORE new BYTES; a store that would be too large is told as one that is.
-fn make(path: &[u8], bytes: &[u8]) {
+fn make(rt: &HostRuntime, path: &[u8], bytes: &[u8]) {
     if !is_digits(bytes) {
-        misused();
+        misused(rt);
         return;
     }
     match text::number(bytes, STORE_MOST) {
-        Decimal::Is(n) => make_of(path, n),
-        Decimal::Not => send(logtext::put_not_found(Page::output(), FindWhy::Large)),
+        Decimal::Is(n) => make_of(rt, path, n),
+        Decimal::Not => send(logtext::put_not_found(Page::output(rt), FindWhy::Large)),
     }
 }
 
 // Appends where there is room, and says so once all is on the disk.
-fn append_at(fd: i32, path: &[u8], size: usize, from: &[u8], plan: &[u8], at: usize) {
-    if writes::make(fd, size, at, plan) {
-        send(logtext::put_appended(Page::output(), from, plan, at, size));
-        return;
+fn append_at(
+    rt: &HostRuntime,
+    file: &File,
+    path: &[u8],
+    size: usize,
+    from: &[u8],
+    plan: &[u8],
+    at: usize,
+) {
+    match writes::make(file, size, at, plan) {
+        Ok(()) => send(logtext::put_appended(Page::output(rt), from, plan, at, size)),
+        Err(e) => {
+            fail(Page::errors(rt), path, e);
+            complain(logtext::put_cut(Page::errors(rt), path));
+        }
     }
-    os::fail(path);
-    complain(logtext::put_cut(Page::errors(), path));
 }
 
-fn append_bytes(fd: i32, path: &[u8], store: &[u8], from: &[u8], plan: &[u8]) {
+fn append_bytes(
+    rt: &HostRuntime,
+    file: &File,
+    path: &[u8],
+    store: &[u8],
+    from: &[u8],
+    plan: &[u8],
+) {
     match room_for(store, plan) {
-        Appended::At(at) => append_at(fd, path, store.len(), from, plan, at),
-        Appended::No(w) => send(logtext::put_refused(Page::output(), plan, w)),
+        Appended::At(at) => append_at(rt, file, path, store.len(), from, plan, at),
+        Appended::No(w) => send(logtext::put_refused(Page::output(rt), plan, w)),
     }
 }
 
-fn append_open(fd: i32, path: &[u8], from: &[u8]) {
-    let file = files::read_open(fd, path);
-    if !file.is_read {
+fn append_open(rt: &HostRuntime, file: &File, path: &[u8], from: &[u8]) {
+    let held = files::read_open(rt, file, path);
+    if !held.is_read {
         return;
     }
-    let given = files::read(from);
+    let given = files::read(rt, from);
     if !given.is_read {
         return;
     }
-    let store = file.bytes;
+    let store = held.bytes;
     let plan = given.bytes;
     append_bytes(
-        fd,
+        rt,
+        file,
         path,
-        part(&store, 0, file.size),
+        part(&store, 0, held.size),
         from,
         part(&plan, 0, given.size),
     );
 }
 
 // desk log STORE append PLAN
-fn append(path: &[u8], from: &[u8]) {
-    let fd = os::open_update(path);
-    if fd < 0 {
-        os::fail(path);
-        unwritten(path);
-        return;
+fn append(rt: &HostRuntime, path: &[u8], from: &[u8]) {
+    match files::open_update(rt, path) {
+        Ok(file) => append_open(rt, &file, path, from),
+        Err(e) => {
+            fail(Page::errors(rt), path, e);
+            unwritten(rt, path);
+        }
     }
-    append_open(fd, path, from);
-    libc::close(fd);
 }
 
 // Whether a plan would go over the store itself, or over a copy of it; a store that is this one plan loses nothing.
-fn is_over(to: &[u8], store: &[u8], plan: &[u8]) -> bool {
+fn is_over(rt: &HostRuntime, to: &[u8], store: &[u8], plan: &[u8]) -> bool {
     if same(store, plan) {
         return false;
     }
-    files::has(to, store)
+    files::has(rt, to, store)
 }
 
-fn save(to: &[u8], store: &[u8], plan: &[u8], at: usize) {
-    if is_over(to, store, plan) {
-        complain(logtext::put_own(Page::errors(), to));
-        unwritten(to);
+fn save(rt: &HostRuntime, to: &[u8], store: &[u8], plan: &[u8], at: usize) {
+    if is_over(rt, to, store, plan) {
+        complain(logtext::put_own(Page::errors(rt), to));
+        unwritten(rt, to);
         return;
     }
-    if files::write(to, plan) {
-        send(logtext::put_found(Page::output(), to, plan, at));
+    if files::write(rt, to, plan) {
+        send(logtext::put_found(Page::output(rt), to, plan, at));
     }
 }
 
-fn newest_in(store: &[u8], to: &[u8]) {
+fn newest_in(rt: &HostRuntime, store: &[u8], to: &[u8]) {
     match newest_of(store) {
-        Found::Plan(s) => save(to, store, plan_at(store, s), s.start),
-        Found::No(w) => send(logtext::put_not_found(Page::output(), w)),
+        Found::Plan(s) => save(rt, to, store, plan_at(store, s), s.start),
+        Found::No(w) => send(logtext::put_not_found(Page::output(rt), w)),
     }
 }
 
 // desk log STORE newest PLAN
-fn newest(path: &[u8], to: &[u8]) {
-    let file = files::read(path);
+fn newest(rt: &HostRuntime, path: &[u8], to: &[u8]) {
+    let file = files::read(rt, path);
     if file.is_read {
         let bytes = file.bytes;
-        newest_in(part(&bytes, 0, file.size), to);
+        newest_in(rt, part(&bytes, 0, file.size), to);
     }
 }
 
-fn list_in(path: &[u8], store: &[u8]) {
+fn list_in(rt: &HostRuntime, path: &[u8], store: &[u8]) {
     match newest_of(store) {
-        Found::Plan(s) => send(logtext::put_list(Page::output(), path, store, end_of(s))),
-        Found::No(w) => complain(logtext::put_not_found(Page::errors(), w)),
+        Found::Plan(s) => send(logtext::put_list(Page::output(rt), path, store, end_of(s))),
+        Found::No(w) => complain(logtext::put_not_found(Page::errors(rt), w)),
     }
 }
 
 // desk log STORE list
-fn list(path: &[u8]) {
-    let file = files::read(path);
+fn list(rt: &HostRuntime, path: &[u8]) {
+    let file = files::read(rt, path);
     if file.is_read {
         let bytes = file.bytes;
-        list_in(path, part(&bytes, 0, file.size));
+        list_in(rt, path, part(&bytes, 0, file.size));
     }
 }
 
 // The words that are given one more.
-fn on_given(path: &[u8], word: &[u8], given: &[u8]) -> bool {
+fn on_given(rt: &HostRuntime, path: &[u8], word: &[u8], given: &[u8]) -> bool {
     if same(word, b"new") {
-        make(path, given);
+        make(rt, path, given);
         return true;
     }
     if same(word, b"append") {
-        append(path, given);
+        append(rt, path, given);
         return true;
     }
     if same(word, b"newest") {
-        newest(path, given);
+        newest(rt, path, given);
         return true;
     }
     false
 }
 
 // desk log STORE WORD ..: whether there is such a command.
-pub fn command(path: &[u8], word: &[u8], given: &[u8]) -> bool {
+pub fn command(rt: &HostRuntime, path: &[u8], word: &[u8], given: &[u8]) -> bool {
     if same(word, b"list") {
-        list(path);
+        list(rt, path);
         return true;
     }
     if given.len() == 0 {
         return false;
     }
-    on_given(path, word, given)
+    on_given(rt, path, word, given)
 }

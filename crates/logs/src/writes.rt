@@ -3,48 +3,47 @@
 use logwalk::STORE_MOST;
 use page::{after, less, lower, plus};
 use planlog::Write;
+use std::fs::File;
+use std::io::Error;
+use std::os::unix::fs::FileExt;
 
 // The log's call by itself, without its contract.
 fn nth(size: usize, at: usize, plan: &[u8], k: usize) -> Write {
     planlog::nth_write(size, at, plan, k)
 }
 
-// A place of a store as C has it.
-fn offset(place: usize) -> i64 {
-    lower(place, STORE_MOST) as i64
+// A place of a store as a file has it.
+fn offset(place: usize) -> u64 {
+    lower(place, STORE_MOST) as u64
 }
 
-fn put(fd: i32, w: Write) -> bool {
-    libc::pwrite(fd, &[w.byte], offset(w.place)) == 1
+fn put(file: &File, w: Write) -> Result<(), Error> {
+    file.write_all_at(&[w.byte], offset(w.place))
 }
 
-// Whether the disk has all that was written.
-fn is_kept(fd: i32) -> bool {
-    libc::fsync(fd) == 0
+// Whether the disk has all that was written; why not.
+fn is_kept(file: &File) -> Result<(), Error> {
+    file.sync_all()
 }
 
 // A plan counts from its last byte on: before that, and before its first, the disk is asked to have all the others.
-fn is_ready(fd: i32, zeros: usize, all: usize, k: usize) -> bool {
+fn is_ready(file: &File, zeros: usize, all: usize, k: usize) -> Result<(), Error> {
     if k == zeros {
-        return is_kept(fd);
+        return is_kept(file);
     }
     if after(k) == all {
-        return is_kept(fd);
+        return is_kept(file);
     }
-    true
+    Ok(())
 }
 
-// Makes every write of the append that puts a plan at a place; stops at the first that fails.
-pub(crate) fn make(fd: i32, size: usize, at: usize, plan: &[u8]) -> bool {
+// Makes every write of the append that puts a plan at a place; stops at the first that fails, and says why it did.
+pub(crate) fn make(file: &File, size: usize, at: usize, plan: &[u8]) -> Result<(), Error> {
     let zeros = less(size, at);
     let all = plus(zeros, plan.len());
     for k in 0..all {
-        if !is_ready(fd, zeros, all, k) {
-            return false;
-        }
-        if !put(fd, nth(size, at, plan, k)) {
-            return false;
-        }
+        is_ready(file, zeros, all, k)?;
+        put(file, nth(size, at, plan, k))?;
     }
-    is_kept(fd)
+    is_kept(file)
 }

@@ -6,7 +6,7 @@ use planfile::{high_of, list_of, low_of};
 use verdict::count::entry_at;
 
 // What stands at the opening of a slot: the units that each job needs and has had, and whether table HI is in force.
-#[derive(Drop)]
+#[derive(Clone, Copy)]
 pub struct Night {
     needs: [u16; MOST_JOBS],
     units: [usize; MOST_JOBS],
@@ -15,7 +15,7 @@ pub struct Night {
 
 // What a slot does: none is named; the job runs; it has ended; or in HI, of a low job: it has not arrived, its deadline is
 // past, or it waits for another.
-#[derive(Drop)]
+#[derive(Clone, Copy)]
 pub enum Slot {
     Idle,
     Runs(usize),

@@ -2,12 +2,14 @@
 //
 // Nothing is asked of a caller, and no piece is left out: one that is longer than a page goes by itself. Blanks are held
 // back until something follows them, so that no line ends in one.
+#![tactic(auto)]
+
 mod number;
 
 ghost use Rattle.std.specs.Prelude.{◌<◌};
 
-use libc::{STDERR_FILENO, STDOUT_FILENO};
 pub use number::{after, less, lower, plus};
+use std::io::{Error, IsTerminal};
 use text::part;
 
 // The bytes of a page.
@@ -16,41 +18,61 @@ const ROOM: usize = 1024;
 // How many bytes are spelled in hex at a time.
 const HEX_PIECE: usize = 256;
 
-// What is gathered; how many blanks are held back after it; where it goes, and whether some of it did not get there.
+// Where a page goes.
+#[derive(Clone, Copy)]
+enum Way {
+    Output,
+    Errors,
+}
+
+// What is gathered; how many blanks are held back after it; the system and where in it the page goes; and why some of it did
+// not get there.
 #[derive(Drop)]
 pub struct Page {
     bytes: [u8; ROOM],
     size: usize,
     blanks: usize,
-    to: i32,
-    is_lost: bool,
+    rt: HostRuntime,
+    to: Way,
+    lost: Option<Error>,
 }
 
 impl Page {
-    fn new(to: i32) -> Self {
+    fn new(rt: HostRuntime, to: Way) -> Self {
         Page {
             bytes: [0u8; ROOM],
             size: 0,
             blanks: 0,
+            rt: rt,
             to: to,
-            is_lost: false,
+            lost: None,
         }
     }
 
     // A page for standard output.
-    pub fn output() -> Self {
-        Page::new(STDOUT_FILENO)
+    pub fn output(rt: &HostRuntime) -> Self {
+        Page::new(*rt, Way::Output)
     }
 
     // A page for standard error.
-    pub fn errors() -> Self {
-        Page::new(STDERR_FILENO)
+    pub fn errors(rt: &HostRuntime) -> Self {
+        Page::new(*rt, Way::Errors)
+    }
+
+    // An empty page for standard error.
+    pub fn aside(&self) -> Self {
+        Page::new(self.rt, Way::Errors)
+    }
+
+    // Whether standard output is a terminal.
+    pub fn is_terminal(&self) -> bool {
+        self.rt.stdout().is_terminal()
     }
 
     // Sends bytes past the page. After a loss no more is sent.
     fn passed(mut self, s: &[u8]) -> Self {
-        if !self.is_lost {
-            self.is_lost = !io::write_all(self.to, s);
+        if self.lost.is_none() {
+            self.lost = write(&self.rt, self.to, s);
         }
         self
     }
@@ -58,7 +80,8 @@ impl Page {
     // Sends what is gathered.
     pub fn sent(self) -> Self {
         let bytes = self.bytes;
-        let mut page = self.passed(part(&bytes, 0, self.size));
+        let size = self.size;
+        let mut page = self.passed(part(&bytes, 0, size));
         page.size = 0;
         page
     }
@@ -73,11 +96,12 @@ impl Page {
 
     // The bytes, on this page or on the next, or by themselves.
     fn added(self, s: &[u8]) -> Self {
+        let size = self.size;
         let page = self.placed(s);
-        if page.size != self.size {
+        if page.size != size {
             return page;
         }
-        let next = self.sent();
+        let next = page.sent();
         if ROOM < s.len() {
             return next.passed(s);
         }
@@ -95,7 +119,8 @@ impl Page {
 
     // The blanks that were held back, now that something follows.
     fn spaced(self) -> Self {
-        self.repeated(b" ", self.blanks).trimmed()
+        let blanks = self.blanks;
+        self.repeated(b" ", blanks).trimmed()
     }
 
     // Puts bytes.
@@ -186,9 +211,22 @@ impl Page {
         page.put(b"s")
     }
 
+    // Sends the rest; why some of the text did not get there.
+    pub fn loss(self) -> Option<Error> {
+        self.sent().lost
+    }
+
     // Sends the rest; whether all of the text got there.
     pub fn done(self) -> bool {
-        !self.sent().is_lost
+        self.loss().is_none()
+    }
+}
+
+// Writes bytes; why not all of them were written.
+fn write(rt: &HostRuntime, to: Way, s: &[u8]) -> Option<Error> {
+    match to {
+        Way::Output => rt.stdout().write_all(s).err(),
+        Way::Errors => rt.stderr().write_all(s).err(),
     }
 }
 

@@ -40,20 +40,21 @@ pub struct Listed {
 }
 
 // Reads a text of jobs that stands in a file.
-fn jobs_in(path: &[u8], text: &[u8]) -> Listed {
+fn jobs_in(rt: &HostRuntime, path: &[u8], text: &[u8]) -> Listed {
     let jobs = jobtext::read(text);
     if jobs.line != 0 {
-        complain(jobtext::put_mistake(Page::errors(), path, jobs));
+        complain(jobtext::put_mistake(Page::errors(rt), path, &jobs));
     }
+    let is_read = jobs.line == 0;
     Listed {
         jobs: jobs,
-        is_read: jobs.line == 0,
+        is_read: is_read,
     }
 }
 
 // Reads a file of jobs.
-pub fn read_jobs(path: &[u8]) -> Listed {
-    let file = files::read(path);
+pub fn read_jobs(rt: &HostRuntime, path: &[u8]) -> Listed {
+    let file = files::read(rt, path);
     if !file.is_read {
         return Listed {
             jobs: Jobs::none(),
@@ -61,7 +62,7 @@ pub fn read_jobs(path: &[u8]) -> Listed {
         };
     }
     let bytes = file.bytes;
-    jobs_in(path, part(&bytes, 0, file.size))
+    jobs_in(rt, path, part(&bytes, 0, file.size))
 }
 
 // The names of a plan's jobs; whether they were found, or why not was said; and whether they are of another list.
@@ -73,7 +74,7 @@ pub struct Named {
 }
 
 // By their numbers, where no text is given.
-pub fn names_of(from: &[u8], plan: &[u8]) -> Named {
+pub fn names_of(rt: &HostRuntime, from: &[u8], plan: &[u8]) -> Named {
     if from.len() == 0 {
         return Named {
             names: Names::none(),
@@ -81,7 +82,7 @@ pub fn names_of(from: &[u8], plan: &[u8]) -> Named {
             is_other: false,
         };
     }
-    let listed = read_jobs(from);
+    let listed = read_jobs(rt, from);
     let jobs = listed.jobs;
     let list = jobs.list;
     let names = jobs.names;
@@ -107,10 +108,10 @@ fn joined(list: &[u8], lo: &[u8], hi: &[u8], names: Names) -> Pair {
 }
 
 // The tables of a list, in the text of a file.
-fn tables_in(path: &[u8], text: &[u8], list: &[u8], names: Names) -> Pair {
+fn tables_in(rt: &HostRuntime, path: &[u8], text: &[u8], list: &[u8], names: Names) -> Pair {
     let tables = tabletext::read(text, list, names);
     if tables.line != 0 {
-        complain(tabletext::put_mistake(Page::errors(), path, tables));
+        complain(tabletext::put_mistake(Page::errors(rt), path, &tables));
         return Pair::none();
     }
     let low = tables.low;
@@ -120,36 +121,36 @@ fn tables_in(path: &[u8], text: &[u8], list: &[u8], names: Names) -> Pair {
 }
 
 // A list and the file of its tables. Where the list is refused the page says so, and the tables are not looked at.
-fn drawn_for(list: &[u8], names: Names, from: &[u8], page: Page) -> Pair {
+fn drawn_for(rt: &HostRuntime, list: &[u8], names: Names, from: &[u8], page: Page) -> Pair {
     if !plans::is_list(list) {
         send(plans::put_list_fault(page, list, names));
         return Pair::none();
     }
-    let file = files::read(from);
+    let file = files::read(rt, from);
     if !file.is_read {
         return Pair::none();
     }
     let bytes = file.bytes;
-    tables_in(from, part(&bytes, 0, file.size), list, names)
+    tables_in(rt, from, part(&bytes, 0, file.size), list, names)
 }
 
 // A file of jobs, which was read, and the file of its tables.
-fn drawn_in(path: &[u8], file: File, from: &[u8], page: Page) -> Pair {
+fn drawn_in(rt: &HostRuntime, path: &[u8], file: File, from: &[u8], page: Page) -> Pair {
     let bytes = file.bytes;
-    let listed = jobs_in(path, part(&bytes, 0, file.size));
+    let listed = jobs_in(rt, path, part(&bytes, 0, file.size));
     if !listed.is_read {
         return Pair::none();
     }
     let jobs = listed.jobs;
     let list = jobs.list;
     let names = jobs.names;
-    drawn_for(part(&list, 0, jobs.size), names, from, page)
+    drawn_for(rt, part(&list, 0, jobs.size), names, from, page)
 }
 
 // A plan file, which was read, and the names of its jobs.
-fn planned(file: File, from: &[u8]) -> Pair {
+fn planned(rt: &HostRuntime, file: File, from: &[u8]) -> Pair {
     let bytes = file.bytes;
-    let named = names_of(from, part(&bytes, 0, file.size));
+    let named = names_of(rt, from, part(&bytes, 0, file.size));
     let names = named.names;
     Pair {
         bytes: bytes,
@@ -170,25 +171,25 @@ fn is_text(s: &[u8]) -> bool {
 }
 
 // A file of jobs and the file of its tables.
-pub fn drawn(path: &[u8], from: &[u8], page: Page) -> Pair {
-    let file = files::read(path);
+pub fn drawn(rt: &HostRuntime, path: &[u8], from: &[u8], page: Page) -> Pair {
+    let file = files::read(rt, path);
     if !file.is_read {
         return Pair::none();
     }
-    drawn_in(path, file, from, page)
+    drawn_in(rt, path, file, from, page)
 }
 
 // PLAN [JOBS], or JOBS TABLES: what the first file is decides. The page is for what is against a list.
-pub fn given(path: &[u8], from: &[u8], page: Page) -> Pair {
-    let file = files::read(path);
+pub fn given(rt: &HostRuntime, path: &[u8], from: &[u8], page: Page) -> Pair {
+    let file = files::read(rt, path);
     if !file.is_read {
         return Pair::none();
     }
     let bytes = file.bytes;
     if from.len() != 0 {
         if is_text(part(&bytes, 0, file.size)) {
-            return drawn_in(path, file, from, page);
+            return drawn_in(rt, path, file, from, page);
         }
     }
-    planned(file, from)
+    planned(rt, file, from)
 }

@@ -23,7 +23,7 @@ const FILLED: usize = 18;
 const BETWEEN: usize = 64;
 
 // The measures of a picture: where slot 0 begins, the width of a slot, and the rows of a table.
-#[derive(Drop)]
+#[derive(Clone, Copy)]
 pub struct Sheet {
     left: usize,
     pub wide: usize,

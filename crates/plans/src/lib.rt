@@ -198,7 +198,7 @@ pub fn put_drawn(page: Page, jobs: &[u8], path: &[u8], plan: &[u8], names: Names
 
 // Both tables, with the fault where there is one.
 pub fn put_show(page: Page, plan: &[u8], names: Names) -> Page {
-    let in_colour = libc::isatty(libc::STDOUT_FILENO) == 1;
+    let in_colour = page.is_terminal();
     put_fault(
         drawing::put_tables(page, plan, names, in_colour),
         plan,

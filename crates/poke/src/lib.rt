@@ -49,7 +49,7 @@ const LO: usize = 18;
 const HI: usize = 19;
 
 // How many places a field has, and the largest value of one.
-#[derive(Drop)]
+#[derive(Clone, Copy)]
 pub struct Kind {
     pub places: usize,
     pub most: usize,

@@ -9,7 +9,7 @@ const MOST_BYTES: usize = 65536;
 pub(crate) const NONE: usize = usize::MAX;
 
 // Where a request's first bytes end, and then those of fields 2 and 3, each behind those before it: a list, a plan, a table to count in or what is put; and two tables.
-#[derive(Drop)]
+#[derive(Clone, Copy)]
 pub struct Decoded {
     pub list: usize,
     pub lo: usize,

@@ -15,7 +15,7 @@ const MOST_SHOWN: usize = 4096;
 const MOST_WRITES: usize = 200000;
 
 // A request of the log with its numbers; its bytes are decoded.
-#[derive(Drop)]
+#[derive(Clone, Copy)]
 pub enum LogRequest {
     Store(usize, usize),
     Put(usize),

@@ -14,7 +14,7 @@ const MOST_NUMBER: usize = 65535;
 pub const MOST_ROOM: usize = 4096;
 
 // A request with its numbers; its bytes are decoded.
-#[derive(Drop)]
+#[derive(Clone, Copy)]
 pub enum Request {
     List,
     Check,

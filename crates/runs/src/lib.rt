@@ -1,11 +1,12 @@
 // The dispatcher, tick by tick: over a text of ticks and marks, or over ticks made here.
 use dispatch::state::{State, Stepped};
-use files::{Piece, read_more};
+use files::{Piece, fail, read_more};
 use joblist::{MOST_JOBS, Place, wide};
 use jobtext::line::{NONE, bare, number, word};
 use jobtext::{Names, list};
 use machine::answer::{Answer, Why};
 use page::{Page, after, less, plus};
+use std::fs::File;
 use text::{find, part, same};
 
 // The tick that the first frame of made ticks begins with: a few before 65535.
@@ -67,18 +68,17 @@ impl Run {
     }
 
     // After a step: a frame begins at slot 0.
-    fn stepped(mut self, state: State, page: Page) -> Self {
+    fn stepped(mut self, state: State) -> Self {
         if state.head.slot == 0 {
             self.frame = after(self.frame);
         }
         self.state = state;
-        self.page = page;
         self.is_open = true;
         self
     }
 
     // The state, opened at the first tick.
-    fn opened(self, plan: &[u8], tick: u16) -> State {
+    fn opened(&self, plan: &[u8], tick: u16) -> State {
         if self.is_open {
             return self.state;
         }
@@ -155,7 +155,7 @@ fn put_answer(page: Page, names: Names, a: Answer, slot: usize, high: u8) -> Pag
 }
 
 // One step, and its line.
-fn step(run: Run, plan: &[u8], names: Names, tick: u16, ended: bool) -> Run {
+fn step(mut run: Run, plan: &[u8], names: Names, tick: u16, ended: bool) -> Run {
     let r = stepped(run.opened(plan, tick), tick, ended);
     let answer = r.answer;
     let state = r.state;
@@ -168,7 +168,8 @@ fn step(run: Run, plan: &[u8], names: Names, tick: u16, ended: bool) -> Run {
         state.head.slot as usize,
         state.head.high,
     );
-    run.stepped(state, said.end())
+    run.page = said.end();
+    run.stepped(state)
 }
 
 // Whether a line has a tick, and nothing or a mark after it.
@@ -207,7 +208,8 @@ fn lines(before: Run, plan: &[u8], names: Names, here: &[u8]) -> Run {
         if here.len() <= to {
             break;
         }
-        run = tick_line(run, plan, names, part(here, run.used, to));
+        let used = run.used;
+        run = tick_line(run, plan, names, part(here, used, to));
         if run.is_over {
             break;
         }
@@ -248,21 +250,27 @@ fn more_lines(run: Run, plan: &[u8], names: Names, have: usize, buf: &mut [u8]) 
 }
 
 // One read, and the lines that it ends.
-fn turn(run: Run, plan: &[u8], names: Names, fd: i32, buf: &mut [u8]) -> Run {
-    match read_more(fd, buf, run.have) {
-        Piece::Failed => {
-            os::fail(b"desk: the ticks");
+fn turn(run: Run, plan: &[u8], names: Names, file: &File, buf: &mut [u8]) -> Run {
+    match read_more(file, buf, run.have) {
+        Piece::Failed(e) => {
+            fail(run.page.aside(), b"desk: the ticks", e);
             run.over()
         }
-        Piece::End => last_line(run, plan, names, part(buf, 0, run.have)),
-        Piece::More(k) => more_lines(run, plan, names, plus(run.have, k), buf),
+        Piece::End => {
+            let have = run.have;
+            last_line(run, plan, names, part(buf, 0, have))
+        }
+        Piece::More(k) => {
+            let have = plus(run.have, k);
+            more_lines(run, plan, names, have, buf)
+        }
     }
 }
 
-fn turns(page: Page, plan: &[u8], names: Names, fd: i32, buf: &mut [u8]) -> Page {
+fn turns(page: Page, plan: &[u8], names: Names, file: &File, buf: &mut [u8]) -> Page {
     let mut run = Run::new(page);
     for i in 0..TURNS {
-        run = turn(run, plan, names, fd, buf);
+        run = turn(run, plan, names, file, buf);
         if run.is_over {
             return run.page;
         }
@@ -271,9 +279,9 @@ fn turns(page: Page, plan: &[u8], names: Names, fd: i32, buf: &mut [u8]) -> Page
 }
 
 // The whole text of a file.
-pub fn file(page: Page, plan: &[u8], names: Names, fd: i32) -> Page {
+pub fn file(page: Page, plan: &[u8], names: Names, file: &File) -> Page {
     let mut buf = [0u8; HELD];
-    turns(page, plan, names, fd, &mut buf)
+    turns(page, plan, names, file, &mut buf)
 }
 
 fn list_of(plan: &[u8]) -> &[u8] {

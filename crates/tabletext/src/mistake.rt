@@ -62,7 +62,7 @@ fn put_number(page: Page, n: usize) -> Page {
 }
 
 // Says where a text is mistaken, and what was expected there.
-pub fn put_mistake(page: Page, path: &[u8], tables: Tables) -> Page {
+pub fn put_mistake(page: Page, path: &[u8], tables: &Tables) -> Page {
     let wrong = tables.wrong;
     let at = page.put(path).put(b": line ").number(tables.line);
     let expected = put_row(at.put(b": expected "), &EXPECTED, row(wrong));

@@ -9,7 +9,7 @@ use text::{byte_at, find, part, same};
 const OPEN: u8 = 254;
 
 // What is wrong with a text, some with a number: the last slot or job that there is, or the slot that is meant.
-#[derive(Drop)]
+#[derive(Clone, Copy)]
 pub enum Wrong {
     Nothing,
     Neither,
@@ -40,7 +40,7 @@ pub struct Tables {
 }
 
 // What a line says: the first slot of a run, its last slot and its entry; NONE where it does not say.
-#[derive(Drop)]
+#[derive(Clone, Copy)]
 struct Run {
     from: usize,
     to: usize,
@@ -79,7 +79,7 @@ impl Tables {
     }
 
     // The line of a table's heading.
-    fn heading(self, is_high: bool) -> usize {
+    fn heading(&self, is_high: bool) -> usize {
         if is_high {
             return self.high_line;
         }
@@ -98,7 +98,7 @@ impl Tables {
     }
 
     // Whether no line has given a slot of a table.
-    fn is_open(self, is_high: bool, t: usize) -> bool {
+    fn is_open(&self, is_high: bool, t: usize) -> bool {
         let low = self.low;
         let high = self.high;
         if is_high {
@@ -108,7 +108,7 @@ impl Tables {
     }
 
     // The first slot from one to before another that was given, or was not; the end where there is none.
-    fn first(self, is_high: bool, from: usize, end: usize, open: bool) -> usize {
+    fn first(&self, is_high: bool, from: usize, end: usize, open: bool) -> usize {
         for t in from..end {
             if self.is_open(is_high, t) == open {
                 return t;
@@ -221,7 +221,7 @@ fn entry_wrong(run: Run, n: usize, line: &[u8]) -> Wrong {
     Wrong::Name
 }
 
-fn run_wrong(tables: Tables, run: Run, list: &[u8], taken: usize, line: &[u8]) -> Wrong {
+fn run_wrong(tables: &Tables, run: Run, list: &[u8], taken: usize, line: &[u8]) -> Wrong {
     if !is_run(line) {
         return Wrong::Neither;
     }
@@ -239,9 +239,10 @@ fn run_wrong(tables: Tables, run: Run, list: &[u8], taken: usize, line: &[u8]) -
 fn run_line(tables: Tables, list: &[u8], names: Names, line: &[u8]) -> Tables {
     let run = run_of(list, names, line);
     let taken = tables.first(tables.is_high, run.from, after(run.to), false);
-    let wrong = run_wrong(tables, run, list, taken, line);
+    let wrong = run_wrong(&tables, run, list, taken, line);
+    let here = tables.here;
     let Wrong::Nothing = wrong else {
-        return tables.mistaken(wrong, tables.here);
+        return tables.mistaken(wrong, here);
     };
     tables.with_run(run)
 }
@@ -249,13 +250,14 @@ fn run_line(tables: Tables, list: &[u8], names: Names, line: &[u8]) -> Tables {
 // A line of one word: the heading of a table that no line has begun yet.
 fn heading_line(tables: Tables, name: &[u8]) -> Tables {
     let is_high = same(name, b"HI");
+    let here = tables.here;
     if !is_high {
         if !same(name, b"LO") {
-            return tables.mistaken(Wrong::Neither, tables.here);
+            return tables.mistaken(Wrong::Neither, here);
         }
     }
     if tables.heading(is_high) != 0 {
-        return tables.mistaken(Wrong::Again, tables.here);
+        return tables.mistaken(Wrong::Again, here);
     }
     tables.headed(is_high)
 }
@@ -303,7 +305,8 @@ fn closed(tables: Tables, slots: usize, is_high: bool) -> Tables {
     }
     let line = tables.heading(is_high);
     if line == 0 {
-        return tables.mistaken(missing(is_high), after(tables.here));
+        let here = tables.here;
+        return tables.mistaken(missing(is_high), after(here));
     }
     let t = tables.first(is_high, 0, slots, true);
     if t < slots {

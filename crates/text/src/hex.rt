@@ -33,6 +33,7 @@ fn spell(out: &mut [u8], at: usize, s: &[u8])
 }
 
 // Puts the hex text of bytes at a place, and hands back the next place.
+#[tactic(auto, using(crate::proofs::Digits::hex_length), unfolding(crate::specs::Place::put_in, crate::specs::Place::next_at))]
 pub fn put_hex(out: &mut [u8], at: usize, s: &[u8]) -> usize
     ensures { (result ≡ next_at out.old at (hex_of s.now (length s.now))) × (out.new ≡ put_in out.old at (hex_of s.now (length s.now))) }
 {
@@ -45,6 +46,7 @@ pub fn put_hex(out: &mut [u8], at: usize, s: &[u8]) -> usize
 }
 
 // What a digit is worth; 16 for a byte that is none.
+#[tactic(auto, unfolding(crate::specs::Hex::worth))]
 fn worth_of(x: u8) -> u8
     ensures { result ≡ worth x }
 {
@@ -89,6 +91,7 @@ fn unspell(out: &mut [u8], at: usize, s: &[u8], k: usize)
 }
 
 // Puts the bytes that hex text says at a place.
+#[tactic(auto, unfolding(crate::specs::Hex::unhexes, crate::specs::Hex::unhexed, crate::specs::Hex::after_unhex))]
 pub fn put_unhex(out: &mut [u8], at: usize, s: &[u8]) -> Unhexed
     ensures { (result ≡ unhexed out.old at s.now) × (out.new ≡ after_unhex out.old at s.now) }
 {

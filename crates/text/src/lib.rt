@@ -1,4 +1,6 @@
 // Text in bytes: put into a buffer at a place, and read. Nothing is asked of a caller: what does not fit is not put.
+#![tactic(auto)]
+
 mod hex;
 mod place;
 mod read;

@@ -16,12 +16,14 @@ pub(crate) fn fits(size: usize, at: usize, k: usize) -> bool
 }
 
 // Puts bytes at a place, and hands back the next place.
+#[tactic(auto, unfolding(crate::specs::Place::put_in, crate::specs::Place::next_at))]
 pub fn put(out: &mut [u8], at: usize, s: &[u8]) -> usize
     ensures { (result ≡ next_at out.old at s.now) × (out.new ≡ put_in out.old at s.now) }
 {
     if fits(out.len(), at, s.len()) {
-        bytes::copy(s, &mut out[at..]);
-        return at + s.len();
+        let end = at + s.len();
+        out[at..end].copy_from_slice(s);
+        return end;
     }
     at
 }

@@ -18,6 +18,7 @@ fn wide(x: u8) -> usize
 }
 
 // One more digit x of a number, none where x is no digit or the number would be over `most`.
+#[tactic(auto, unfolding(crate::specs::Number::step))]
 fn more(n: usize, x: usize, most: usize) -> Decimal
     ensures { result ≡ step most (Is n) x }
 {

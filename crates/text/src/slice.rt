@@ -13,6 +13,7 @@ pub fn byte_at(s: &[u8], i: usize) -> u8
 }
 
 // The bytes from a to e; none where that is no part of s.
+#[tactic(auto, unfolding(crate::specs::Slice::between))]
 pub fn part(s: &[u8], a: usize, e: usize) -> &[u8]
     ensures { result.now ≡ between s.now a e }
 {

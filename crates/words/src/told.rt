@@ -10,7 +10,7 @@ use verdict::{Fault, Spot, Verdict};
 const NOWHERE: usize = 65536;
 
 // A refusal: its number, the check's number where it is the builder's 24, and its place.
-#[derive(Drop)]
+#[derive(Clone, Copy)]
 pub struct No {
     number: usize,
     fault: usize,
