@@ -1,7 +1,7 @@
 /* The slot desk for firmware: build, check, why, read, write, open and step, over bytes that the caller lends
  * and one state that the caller keeps; and a log of plans in one store, which a cut of power does not harm.
  *
- * Link libhut.a: `rt staticlib hut` writes it for x86-64, `tools/hut-for` for 64-bit Arm and RISC-V as well.
+ * Link libhut.a: `rt lib` in crates/hut writes it for x86-64, `tools/hut-for` for 64-bit Arm and RISC-V as well.
  * Every promise below is the contract of a proved function: crates/hut/src/lib.rt has it, and
  * crates/hut/specs/Calls.antt and Log.antt say what each answer is. What a cut leaves of an append is a theorem
  * over these contracts: crates/planlog/specs/Cut.antt. What is not proved is the compiler's back end, and

@@ -8,7 +8,7 @@ use borrow.Author.Tests.{eqb-true, eqb-false}
 use Rattle.basics.specs.Choice.{pick}
 use Rattle.basics.specs.Limits.{Limits}
 use Rattle.basics.specs.Marks.{idle}
-use Rattle.basics.proofs.Choice.{pick_true, pick_false, pick_both}
+use Rattle.basics.proofs.Choice.{pick_both}
 use Rattle.machine.specs.Run.{Run}
 use Rattle.parts.specs.declared.plan.Plan.{Plan}
 use Rattle.machine.specs.declared.answer.Answer.TheVariants.{No}

@@ -13,7 +13,7 @@ use Rattle.machine.specs.declared.answer.Answer.TheVariants.{No}
 use Rattle.machine.specs.declared.answer.Why.{Why}
 use Rattle.machine.specs.declared.answer.Why.TheVariants.{Halted}
 use Rattle.parts.specs.Marks.{is_set}
-use Rattle.machine.specs.Machine.{Ran, refused_run, order_of, step_on}
+use Rattle.machine.specs.Machine.{Ran, order_of, step_on}
 use Rattle.dispatch.specs.State.{run_of, state_with, state_ok, step_of}
 use Rattle.dispatch.specs.Runs.{Given, refused_of, answers_by, state_by, answers_of, state_of}
 use Rattle.machine.proofs.Steps.{step_halted}

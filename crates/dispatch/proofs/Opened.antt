@@ -15,7 +15,7 @@ use Rattle.basics.proofs.Tests.{or_right}
 use Rattle.basics.specs.Bytes.{u16_at}
 use Rattle.basics.specs.Limits.{Limits, first_edition}
 use Rattle.basics.specs.Marks.{idle}
-use Rattle.joblist.specs.Fields.{head_bytes, jobs, edges, slots, job_at, edge_at, list_bytes, head_zero, arrival, deadline, ordinary, high, level, job_zero, edge_from, edge_to}
+use Rattle.joblist.specs.Fields.{head_bytes, jobs, edges, slots, job_at, edge_at, list_bytes, head_zero, ordinary, level, job_zero}
 use Rattle.joblist.specs.Answer.{each, counts_answer, zero_answer, body_answer, front_answer, list_answer}
 use Rattle.joblist.specs.declared.ListAnswer.TheVariants.{Good}
 use Rattle.joblist.specs.declared.Why.TheVariants.{Short}
@@ -35,7 +35,7 @@ use Rattle.machine.specs.declared.answer.Answer.TheVariants.{No as Refused}
 use Rattle.machine.specs.declared.answer.Why.TheVariants.{BadState}
 use Rattle.parts.specs.Plan.{plan_with, no_plan, number_in, level_of}
 use Rattle.parts.specs.Scan.{sizes_ok, byte_ok, slot_ok, tables_ok, edges_ok, job_ok, jobs_ok}
-use Rattle.dispatch.specs.Open.{entries, jobs_of, edges_of, tables_of, fields_of, JobFields, open_of}
+use Rattle.dispatch.specs.Open.{jobs_of, edges_of, tables_of, fields_of, JobFields, open_of}
 use Rattle.machine.specs.Machine.{plan_ok, sound_on}
 use Rattle.dispatch.specs.State.{run_of, beside, state_ok, fresh_of, no_state, step_of}
 use Rattle.machine.specs.Numbers.{answer_number}

@@ -1,6 +1,6 @@
 -- A step keeps a sound state sound; a fresh state of a sound plan is sound; so no run on it ever answers 37.
 -- Assumes nothing.
-use Prim.Native.Nat.{ℕ, ◌+◌, ◌-◌, ◌≤◌, ◌<◌}
+use Prim.Native.Nat.{ℕ, ◌+◌, ◌≤◌, ◌<◌}
 use mathlib.Core.Path.{◌≡◌, refl}
 use mathlib.Core.Bool.{Bool, true, false}
 use mathlib.Core.List.{List, [], ◌∷◌}
@@ -115,4 +115,4 @@ module _ (lim : Limits) where
   unfolding answers_by
   never_37 s v [] = tt
   never_37 s v (g ∷ r) =
-      (sound_answer s g.tick g.ended v, never_37 _ (sound_stays s g.tick g.ended v) r)
+      (sound_answer s g.tick g.ended v, never_37 (step_of lim s g.tick g.ended).state (sound_stays s g.tick g.ended v) r)

@@ -17,6 +17,7 @@ pub struct Opened {
 }
 
 // The numbers of n jobs, 16 bits each.
+#[tactic(auto, using(crate::proofs::Entries::entries_none, crate::proofs::Entries::entries_turn, crate::proofs::Entries::entries_done), unfolding(crate::specs::Open::jobs_of))]
 fn numbers(list: &[u8], n: usize) -> [u16; JOBS]
     requires { (n ≤ first_edition.jobs) × (job_at n ≤ length list.now) }
     ensures { result ≡ jobs_of first_edition list.now n }
@@ -29,6 +30,7 @@ fn numbers(list: &[u8], n: usize) -> [u16; JOBS]
 }
 
 // The ends of m edges after n jobs.
+#[tactic(auto, using(crate::proofs::Entries::entries_none, crate::proofs::Entries::entries_turn, crate::proofs::Entries::entries_done), unfolding(crate::specs::Open::edges_of))]
 fn ends(list: &[u8], n: usize, m: usize) -> [u8; ENDS]
     requires { (n ≤ first_edition.jobs) × (m ≤ first_edition.edges) × (list_bytes n m ≤ length list.now) }
     ensures { result ≡ edges_of first_edition list.now n m }
@@ -41,6 +43,7 @@ fn ends(list: &[u8], n: usize, m: usize) -> [u8; ENDS]
 }
 
 // Both tables, of n slots each.
+#[tactic(auto, using(crate::proofs::Entries::both_none, crate::proofs::Entries::both_turn, crate::proofs::Entries::both_done), unfolding(crate::specs::Open::tables_of))]
 fn tables(lo: &[u8], hi: &[u8], n: usize) -> [u8; ENTRIES]
     requires { (n ≤ first_edition.slots) × (n ≤ length lo.now) × (n ≤ length hi.now) }
     ensures { result ≡ tables_of first_edition lo.now hi.now n }
@@ -54,6 +57,7 @@ fn tables(lo: &[u8], hi: &[u8], n: usize) -> [u8; ENTRIES]
 }
 
 // A plan's fields, from its list and its tables.
+#[tactic(auto, using(crate::proofs::Opened::fields_are))]
 fn fields(list: &[u8], lo: &[u8], hi: &[u8]) -> Plan
     requires { (jobs list.now ≤ first_edition.jobs) × (edges list.now ≤ first_edition.edges) × (slots list.now ≤ first_edition.slots) × (list_bytes (jobs list.now) (edges list.now) ≤ length list.now)
         × (slots list.now ≤ length lo.now) × (slots list.now ≤ length hi.now) }
@@ -78,6 +82,7 @@ fn fields(list: &[u8], lo: &[u8], hi: &[u8]) -> Plan
 }
 
 // A plan's bytes and the first tick: the reader's answer, with a fresh state, or with the all-zero state where it refuses.
+#[tactic(auto, using(crate::proofs::Opened::fields_fit, crate::proofs::Opened::open_yes, crate::proofs::Opened::open_no))]
 pub fn open(plan: &[u8], first: u16) -> Opened
     ensures { result ≡ open_of first_edition plan.now first }
 {

@@ -27,6 +27,7 @@ pub struct Stepped {
 
 impl State {
     // At opening: nothing has run.
+    #[tactic(auto, unfolding(crate::specs::State::fresh_of, machine::specs::Machine::fresh_run))]
     pub fn fresh(plan: Plan, first: u16) -> Self
         ensures { result ≡ fresh_of first_edition plan first }
     {
@@ -41,6 +42,7 @@ impl State {
     }
 
     // All zero: a step on it says 37.
+    #[tactic(auto, unfolding(crate::specs::State::no_state))]
     pub fn zero() -> Self
         ensures { result ≡ no_state first_edition }
     {

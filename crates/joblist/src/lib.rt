@@ -35,7 +35,7 @@ pub const JOB_BYTES: usize = 10;
 pub const EDGE_BYTES: usize = 2;
 
 // Why a list is refused, with the job or the edge where it has a place.
-#[derive(Drop)]
+#[derive(Clone, Copy)]
 pub enum Why {
     Short,
     Jobs,
@@ -51,14 +51,14 @@ pub enum Why {
     Cycle,
 }
 
-#[derive(Drop)]
+#[derive(Clone, Copy)]
 pub enum ListAnswer {
     Good,
     No(Why),
 }
 
 // Where a list is refused.
-#[derive(Drop)]
+#[derive(Clone, Copy)]
 pub enum Place {
     Nowhere,
     AtJob(usize),

@@ -1,4 +1,6 @@
 // The plans of a store, back to back: the walk from the front, the newest, and the one before.
+#![tactic(auto)]
+
 ghost use Rattle.std.specs.Prelude.{◌≡◌, ◌≤◌, length};
 ghost use Rattle.basics.specs.Limits.{first_edition};
 ghost use Rattle.logwalk.specs.Walk.{whole_at, no_span, last_in, walk, end_of};
@@ -51,6 +53,7 @@ pub fn found_number(f: Found) -> usize
 }
 
 // The size of the accepted plan that begins at `at`; 0 where none does.
+#[tactic(auto, using(crate::proofs::Steps::whole_short, crate::proofs::Steps::whole_beyond, crate::proofs::Steps::whole_refused, crate::proofs::Steps::whole_plan), unfolding(crate::specs::Walk::size_of))]
 fn size_at(store: &[u8], at: usize) -> usize
     requires { at ≤ length store.now }
     ensures { result ≡ whole_at first_edition store.now at }
@@ -70,6 +73,7 @@ fn size_at(store: &[u8], at: usize) -> usize
 }
 
 // Inner: the last whole plan, by the walk from the front; no bytes at 0 where there is none.
+#[tactic(auto, using(crate::proofs::Steps::step_fits, crate::proofs::Steps::step_least, crate::proofs::Steps::step_first))]
 pub fn last_of(store: &[u8]) -> Span
     ensures { (result ≡ last_in no_span (walk first_edition store.now)) × (end_of result ≤ length store.now) }
 {
@@ -88,6 +92,7 @@ pub fn last_of(store: &[u8]) -> Span
 }
 
 // The newest whole plan of a store: its place and size.
+#[tactic(auto, using(crate::proofs::Rows::newest_large, crate::proofs::Rows::newest_empty, crate::proofs::Rows::newest_found))]
 pub fn newest(store: &[u8]) -> Found
     ensures { result ≡ newest_of first_edition store.now }
 {
@@ -102,6 +107,7 @@ pub fn newest(store: &[u8]) -> Found
 }
 
 // The accepted plan that ends at `end`: its trailer's distance leads back to its start. From the newest plan's end, and then from each start, this lists the plans newest first.
+#[tactic(auto, using(crate::proofs::Back::previous_large, crate::proofs::Back::previous_beyond, crate::proofs::Back::previous_short, crate::proofs::Back::previous_far, crate::proofs::Back::previous_no, crate::proofs::Back::previous_found))]
 pub fn previous(store: &[u8], end: usize) -> Found
     ensures { result ≡ previous_of first_edition store.now end }
 {

@@ -1,6 +1,6 @@
 -- What a yes of row 37's test says, and what booking and moving on keep.
 -- Assumes nothing.
-use Rattle.std.proofs.Common.{◌≡◌, ℕ, ◌+◌, ◌-◌, ◌*◌, ◌%◌, ◌^◌, ◌<◌, ◌≤◌, Bool, true, false, ◌||◌, ltb, List, get_or, sym, refl, ap, ◌∙◌, arith, ltb-true, lt-ltb, ne_eqb, leb-true}
+use Rattle.std.proofs.Common.{◌≡◌, ℕ, ◌+◌, ◌*◌, ◌%◌, ◌^◌, ◌<◌, ◌≤◌, Bool, true, false, ◌||◌, ltb, List, sym, refl, ap, ◌∙◌, arith, ltb-true, lt-ltb, ne_eqb, leb-true}
 use Rattle.basics.specs.Choice.{pick}
 use Rattle.basics.specs.Below.{all_of}
 use Rattle.basics.specs.Limits.{Limits}

@@ -1,6 +1,6 @@
 -- Document 01, 'The dispatcher', with 36 of request 2026-02: a function of a plan, which never changes, a run, a tick and a mark, to an answer and a run.
 -- Assumes nothing.
-use Rattle.std.specs.Prelude.{ℕ, ◌+◌, Bool, not, ◌&&◌, ◌||◌, List, [], ◌∷◌, set, replicate, ◌==◌, nat_le, nat_lt, slice_index, slice_set}
+use Rattle.std.specs.Prelude.{ℕ, ◌+◌, Bool, not, ◌&&◌, ◌||◌, List, [], ◌∷◌, replicate, ◌==◌, nat_le, nat_lt, slice_index, slice_set}
 use Rattle.basics.specs.Choice.{pick}
 use Rattle.basics.specs.Below.{all_of}
 use Rattle.basics.specs.Limits.{Limits}

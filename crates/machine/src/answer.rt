@@ -5,7 +5,7 @@ ghost use Rattle.machine.specs.Numbers.{number_of, place_of, halts_of, answer_nu
 use joblist::Place;
 
 // Why a step is refused, in the order of the tests.
-#[derive(Drop)]
+#[derive(Clone, Copy)]
 pub enum Why {
     BadState,
     Halted,

@@ -16,7 +16,7 @@ use parts::scan;
 // The slot, the last tick taken, the job ordered last, the mode (HI where `high` is set) and the halted mark. Marks are
 // bytes: 0 is clear, anything else set. So every memory content is a head. No step looks at `spare`, or changes it.
 #[repr(C)]
-#[derive(Drop)]
+#[derive(Clone, Copy)]
 pub struct Head {
     pub slot: u16,
     pub last: u16,
@@ -45,6 +45,7 @@ fn before(n: u16) -> u16
 
 impl Head {
     // At opening: the tick before the first is taken, at slot L-1 with no job ordered.
+    #[tactic(auto, using(crate::proofs::Facts::difference_is), unfolding(crate::specs::Run::fresh_head))]
     pub fn fresh(len: u16, first: u16) -> Self
         ensures { result ≡ fresh_head len first }
     {
@@ -61,6 +62,7 @@ impl Head {
     }
 
     // All zero.
+    #[tactic(auto, unfolding(crate::specs::Run::no_head))]
     pub fn zero() -> Self
         ensures { result ≡ no_head }
     {
@@ -107,6 +109,7 @@ impl Head {
     }
 
     // The last slot is booked, if a job was ordered.
+    #[tactic(auto, using(crate::proofs::Book::joined_as, crate::proofs::Book::book_idle, crate::proofs::Book::book_ended, crate::proofs::Book::book_under, crate::proofs::Book::book_high, crate::proofs::Book::book_switch, crate::proofs::Book::book_cut))]
     pub(crate) fn book<'a, 'b>(
         self,
         jobs: &'a [u16; JOBS],
@@ -142,6 +145,7 @@ impl Head {
     }
 
     // The tick is taken: the next slot, or after slot L-1 the next frame.
+    #[tactic(auto, unfolding(crate::specs::Machine::move_of, basics::specs::Choice::pick))]
     pub(crate) fn move_on<'a>(
         mut self,
         len: u16,
@@ -186,6 +190,7 @@ impl Head {
     }
 
     // A refusal, and what it leaves.
+    #[tactic(auto, unfolding(basics::specs::Choice::pick))]
     pub(crate) fn refuse(self, why: Why) -> Turned
         ensures { result ≡ refused_head why self }
     {

@@ -23,6 +23,7 @@ pub enum Test {
 }
 
 // 37, the plan's part.
+#[tactic(auto, using(crate::proofs::Facts::sizes_facts), unfolding(crate::specs::Machine::plan_ok, basics::specs::Below::all_of))]
 fn plan_ok<'a>(
     counts: Counts,
     jobs: &'a [u16; JOBS],
@@ -47,6 +48,7 @@ fn plan_ok<'a>(
 }
 
 // 37, the run's part: L is above the slot, and the job ordered last and the unit counts are in their ranges.
+#[tactic(auto, unfolding(crate::specs::Machine::run_ok, basics::specs::Below::all_of))]
 fn run_ok(counts: Counts, head: Head, units: &[u16; MOST_JOBS]) -> bool
     requires { counts.n ≤ first_edition.jobs }
     ensures { result ≡ run_ok first_edition counts head units.now }
@@ -84,6 +86,7 @@ fn end_test<'a, 'b>(
 }
 
 // What a tick that is not the next is refused for.
+#[tactic(auto, unfolding(crate::specs::Machine::tick_test))]
 fn tick_test(said: Tick) -> Test
     ensures { result ≡ tick_test said }
 {
@@ -118,6 +121,7 @@ fn live_test<'a, 'b>(
 }
 
 // 37: whether every part that a step goes by is in its range.
+#[tactic(auto, using(crate::proofs::Facts::plan_facts), unfolding(crate::specs::Machine::sound_on))]
 fn sound<'a, 'b>(
     counts: Counts,
     jobs: &'a [u16; JOBS],

@@ -15,6 +15,7 @@ pub enum Tick {
 const HALF: u16 = 32768;
 
 // The difference modulo 65536 alone decides.
+#[tactic(auto, using(crate::proofs::Facts::difference_is), unfolding(crate::specs::Tick::tick_of, crate::specs::Tick::case_of, basics::specs::Choice::pick))]
 pub fn said(last: u16, tick: u16) -> Tick
     ensures { result ≡ tick_of last tick }
 {

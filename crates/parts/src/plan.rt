@@ -27,7 +27,7 @@ pub const ENTRIES: usize = 2 * MOST_SLOTS;
 
 // The frame length L, the job count n and the edge count m.
 #[repr(C)]
-#[derive(Drop)]
+#[derive(Clone, Copy)]
 pub struct Counts {
     pub len: u16,
     pub n: u16,
@@ -52,6 +52,7 @@ impl Plan {
     pub const HIGH: u16 = 1;
 
     // All zero.
+    #[tactic(auto, unfolding(crate::specs::Plan::no_plan))]
     pub fn zero() -> Self
         ensures { result ≡ no_plan first_edition }
     {

@@ -11,6 +11,7 @@ use joblist::{MOST_EDGES, MOST_JOBS, MOST_SLOTS};
 const BUDGET: u16 = joblist::MOST_BUDGET as u16;
 
 // L, n and m in their ranges.
+#[tactic(auto, unfolding(crate::specs::Scan::sizes_ok, basics::specs::Below::all_of))]
 pub fn sizes_ok(len: usize, n: usize, m: usize) -> bool
     ensures { result ≡ sizes_ok first_edition len n m }
 {
@@ -30,6 +31,7 @@ pub fn sizes_ok(len: usize, n: usize, m: usize) -> bool
 }
 
 // Idle, or a job's number.
+#[tactic(auto, unfolding(crate::specs::Scan::byte_ok))]
 pub fn byte_ok(n: usize, x: u8) -> bool
     ensures { result ≡ byte_ok n x }
 {
@@ -50,6 +52,7 @@ fn larger(w: u8, x: u8) -> u8
 }
 
 // The larger of w and of what a table's byte stands at: 0 for idle, and one more than a job's number.
+#[tactic(auto, using(crate::proofs::Worst::rank_ok))]
 fn worse(w: u8, x: u8) -> u8
     ensures { (n : ℕ) → nat_le result n ≡ (nat_le w n && byte_ok n x) }
 {
@@ -58,6 +61,7 @@ fn worse(w: u8, x: u8) -> u8
 
 // Both tables, at each slot. The loop keeps the largest and has no way out before its end, so that a processor takes many
 // slots at once.
+#[tactic(auto, using(crate::proofs::Worst::two_more, crate::proofs::Worst::none_yet, crate::proofs::Worst::all_told), unfolding(crate::specs::Scan::tables_ok, crate::specs::Scan::slot_ok))]
 pub fn tables_ok(tables: &[u8; ENTRIES], len: usize, n: usize) -> bool
     requires { len ≤ first_edition.slots }
     ensures { result ≡ tables_ok first_edition tables.now len n }
@@ -72,6 +76,7 @@ pub fn tables_ok(tables: &[u8; ENTRIES], len: usize, n: usize) -> bool
 }
 
 // Both ends of each edge, likewise.
+#[tactic(auto, using(crate::proofs::Worst::one_more, crate::proofs::Worst::none_yet, crate::proofs::Worst::all_told, crate::proofs::Worst::below_is), unfolding(crate::specs::Scan::edges_ok))]
 pub fn edges_ok(edges: &[u8; ENDS], m: usize, n: usize) -> bool
     requires { (m ≤ first_edition.edges) × (1 ≤ n) }
     ensures { result ≡ edges_ok edges.now m n }
@@ -86,6 +91,7 @@ pub fn edges_ok(edges: &[u8; ENDS], m: usize, n: usize) -> bool
 }
 
 // Level and budgets of each job.
+#[tactic(auto, using(basics::proofs::Below::all_none, basics::proofs::Below::all_more, basics::proofs::Below::all_done, basics::proofs::Below::all_stops), unfolding(crate::specs::Scan::jobs_ok, crate::specs::Scan::job_ok, basics::specs::Below::all_of))]
 pub fn jobs_ok(jobs: &[u16; JOBS], n: usize) -> bool
     requires { n ≤ first_edition.jobs }
     ensures { result ≡ jobs_ok first_edition jobs.now n }
@@ -107,6 +113,7 @@ pub fn jobs_ok(jobs: &[u16; JOBS], n: usize) -> bool
 }
 
 // The unit count of each job.
+#[tactic(auto, using(basics::proofs::Below::all_none, basics::proofs::Below::all_more, basics::proofs::Below::all_done, basics::proofs::Below::all_stops), unfolding(crate::specs::Scan::units_ok))]
 pub fn units_ok(units: &[u16; MOST_JOBS], n: usize) -> bool
     requires { n ≤ first_edition.jobs }
     ensures { result ≡ units_ok first_edition units.now n }
@@ -122,6 +129,7 @@ pub fn units_ok(units: &[u16; MOST_JOBS], n: usize) -> bool
 }
 
 // No edge to job j starts at an unfinished job.
+#[tactic(auto, using(basics::proofs::Below::all_none, basics::proofs::Below::all_more, basics::proofs::Below::all_done, basics::proofs::Below::all_stops, crate::proofs::Marks::edge_other, crate::proofs::Marks::edge_done, crate::proofs::Marks::edge_open), unfolding(crate::specs::Scan::preds_done, crate::specs::Marks::is_set))]
 pub fn preds_done<'a, 'b>(m: usize, edges: &'a [u8; ENDS], done: &'b [u8; MOST_JOBS], j: u8) -> bool
     requires m_le_edges { m ≤ first_edition.edges }
     requires by_index { (e : ℕ) → e < m → slice_index edges.now (2 * e) < first_edition.jobs }
@@ -141,6 +149,7 @@ pub fn preds_done<'a, 'b>(m: usize, edges: &'a [u8; ENDS], done: &'b [u8; MOST_J
 }
 
 // The job that the mode's table names at the slot.
+#[tactic(auto, unfolding(crate::specs::Scan::named_in, basics::specs::Choice::pick, crate::specs::Marks::is_set))]
 pub fn named(tables: &[u8; ENTRIES], slot: usize, high: u8) -> u8
     requires { slot < first_edition.slots }
     ensures { result ≡ named_in first_edition tables.now slot high }
@@ -152,6 +161,7 @@ pub fn named(tables: &[u8; ENTRIES], slot: usize, high: u8) -> u8
 }
 
 // One unit more; a count stops at the largest budget.
+#[tactic(auto, unfolding(crate::specs::Scan::bump, basics::specs::Choice::pick))]
 pub fn bumped(u: u16) -> u16
     ensures { result ≡ bump first_edition u }
 {
@@ -162,6 +172,7 @@ pub fn bumped(u: u16) -> u16
 }
 
 // 35: whether job j, not ended, is high and with one unit more at or past CHI.
+#[tactic(auto, unfolding(crate::specs::Scan::past_high))]
 pub fn past_high<'a, 'b>(
     jobs: &'a [u16; JOBS],
     units: &'b [u16; MOST_JOBS],
@@ -181,6 +192,7 @@ pub fn past_high<'a, 'b>(
 }
 
 // Whether job j is low, in HI, at or past its deadline.
+#[tactic(auto, unfolding(crate::specs::Scan::late_low, crate::specs::Marks::is_set))]
 fn late_low(jobs: &[u16; JOBS], slot: u16, high: u8, j: usize) -> bool
     requires { j < first_edition.jobs }
     ensures { result ≡ late_low jobs.now slot high j }
@@ -195,6 +207,7 @@ fn late_low(jobs: &[u16; JOBS], slot: u16, high: u8, j: usize) -> bool
 }
 
 // Whether job x may run in the slot.
+#[tactic(auto, unfolding(crate::specs::Scan::may_run, basics::specs::Below::all_of, crate::specs::Marks::is_set))]
 fn may_run<'a, 'b>(
     m: usize,
     jobs: &'a [u16; JOBS],
@@ -227,6 +240,7 @@ fn may_run<'a, 'b>(
 }
 
 // The named job if it may run, else idle.
+#[tactic(auto, unfolding(crate::specs::Scan::choice_in, basics::specs::Choice::pick))]
 pub fn choice<'a, 'b>(
     m: usize,
     jobs: &'a [u16; JOBS],

@@ -1,4 +1,6 @@
 // A plan in bytes: written from a list and two tables, read again, and taken apart.
+#![tactic(auto)]
+
 ghost use Rattle.std.specs.Prelude.{◌≡◌, ℕ, ◌+◌, ◌<◌, ◌≤◌, length, take, drop};
 ghost use Rattle.basics.specs.Bytes.{u32_at};
 ghost use Rattle.basics.specs.Limits.{first_edition};
@@ -139,6 +141,7 @@ pub fn wrote_place(a: Wrote) -> Spot
 }
 
 // Puts the bytes of s into out from `at` on.
+#[tactic(auto, using(basics::proofs::Put::put_none))]
 fn copy_at(out: &mut [u8], at: usize, s: &[u8])
     requires { at + length s.now ≤ length out.old }
     ensures { out.new ≡ put out.old at s.now }
@@ -165,6 +168,7 @@ fn trailer_of(back: usize) -> [u8; TRAILER_BYTES]
 }
 
 // Inner: the plan of a list and two tables that were checked, at the front of a buffer that has room; its length. Who builds a pair writes it so too.
+#[tactic(auto, using(crate::proofs::Written::plan_length, crate::proofs::Written::four))]
 pub fn put_plan(list: &[u8], lo: &[u8], hi: &[u8], out: &mut [u8]) -> usize
     requires { length list.now + length lo.now + length hi.now + trailer_bytes ≤ length out.old }
     ensures { (result ≡ length (plan_of list.now lo.now hi.now))
@@ -182,6 +186,7 @@ pub fn put_plan(list: &[u8], lo: &[u8], hi: &[u8], out: &mut [u8]) -> usize
 }
 
 // Writes the plan at the front of `out`, where the check says yes and there is room; no byte changes otherwise.
+#[tactic(auto, using(crate::proofs::Accepted::pair_fits))]
 pub fn write(list: &[u8], lo: &[u8], hi: &[u8], out: &mut [u8]) -> Wrote
     ensures { (result ≡ write_of first_edition list.now lo.now hi.now (length out.old))
         × (out.new ≡ out_after first_edition list.now lo.now hi.now out.old) }
@@ -197,6 +202,7 @@ pub fn write(list: &[u8], lo: &[u8], hi: &[u8], out: &mut [u8]) -> Wrote
 }
 
 // Inner: the 32 bits at i. The log reads a trailer so too.
+#[tactic(auto, unfolding(basics::specs::Bytes::u32_at))]
 pub fn u32_at(s: &[u8], i: usize) -> usize
     requires { i + 3 < length s.now }
     ensures { result ≡ u32_at s.now i }
@@ -224,6 +230,7 @@ pub fn size_of(plan: &[u8]) -> usize
 }
 
 // k bytes from `at` on, as many of them as are there.
+#[tactic(auto, using(crate::proofs::Parts::part_past, crate::proofs::Parts::part_rest, crate::proofs::Parts::part_within))]
 fn part(s: &[u8], at: usize, k: usize) -> &[u8]
     ensures { result.now ≡ take k (drop at s.now) }
 {
@@ -238,6 +245,7 @@ fn part(s: &[u8], at: usize, k: usize) -> &[u8]
 }
 
 // The list of a plan, as much of it as lies in the bytes; nothing of fewer than 16 bytes.
+#[tactic(auto, using(crate::proofs::Parts::part_none, crate::proofs::Parts::part_some))]
 pub fn list_of(plan: &[u8]) -> &[u8]
     ensures { result.now ≡ list_of plan.now }
 {
@@ -248,6 +256,7 @@ pub fn list_of(plan: &[u8]) -> &[u8]
 }
 
 // Its table LO, in the same way.
+#[tactic(auto, using(crate::proofs::Parts::part_none, crate::proofs::Parts::part_some))]
 pub fn low_of(plan: &[u8]) -> &[u8]
     ensures { result.now ≡ low_of plan.now }
 {
@@ -260,6 +269,7 @@ pub fn low_of(plan: &[u8]) -> &[u8]
 }
 
 // Its table HI, in the same way.
+#[tactic(auto, using(crate::proofs::Parts::part_none, crate::proofs::Parts::part_some))]
 pub fn high_of(plan: &[u8]) -> &[u8]
     ensures { result.now ≡ high_of plan.now }
 {
@@ -284,6 +294,7 @@ fn shape_of(plan: &[u8]) -> Shape
 }
 
 // The list's rows, with the plan's own length, and then the check of the parts.
+#[tactic(auto, using(crate::proofs::Rows::parts_list, crate::proofs::Rows::parts_check, crate::proofs::Rows::parts_plan))]
 fn read_parts(plan: &[u8]) -> ReadAnswer
     requires { least_bytes ≤ length plan.now }
     ensures { result ≡ parts_answer first_edition plan.now }
@@ -304,6 +315,7 @@ fn read_parts(plan: &[u8]) -> ReadAnswer
 }
 
 // What the bytes of a slice are: a plan, with its counts, or why not.
+#[tactic(auto, using(crate::proofs::Rows::read_short, crate::proofs::Rows::read_mark, crate::proofs::Rows::read_distance, crate::proofs::Rows::read_rest), unfolding(basics::specs::Bytes::u32_at))]
 pub fn read(plan: &[u8]) -> ReadAnswer
     ensures { result ≡ read_of first_edition plan.now }
 {

@@ -1,4 +1,6 @@
 // A log of plans in one store: appended so that a cut of power loses none.
+#![tactic(auto)]
+
 ghost use Rattle.std.specs.Prelude.{◌≡◌, ◌+◌, ◌-◌, ◌≤◌, min, length, take};
 ghost use Rattle.basics.specs.Limits.{first_edition};
 ghost use Rattle.planlog.specs.Writes.{zeros, copies, writes_at, after, no_write, nth_write};
@@ -77,6 +79,7 @@ pub fn append_place(a: Appended) -> Spot
 }
 
 // Where an append puts the plan, or why it does not. It only reads.
+#[tactic(auto, using(crate::proofs::Rows::append_large, crate::proofs::Rows::append_refused, crate::proofs::Rows::append_full, crate::proofs::Rows::append_at, logwalk::proofs::Rows::last_end_lem))]
 pub fn room_for(store: &[u8], plan: &[u8]) -> Appended
     ensures { result ≡ append_of first_edition store.now plan.now }
 {
@@ -106,6 +109,7 @@ fn fewer(a: usize, b: usize) -> usize
 }
 
 // Zeroes k bytes of the store, from its last byte back.
+#[tactic(auto, using(crate::proofs::Writes::after_none))]
 fn zero_back(store: &mut [u8], end: usize, k: usize)
     requires { (end ≤ length store.old) × (k ≤ length store.old - end) }
     ensures { store.new ≡ after store.old (take k (zeros end (length store.old - end))) }
@@ -117,6 +121,7 @@ fn zero_back(store: &mut [u8], end: usize, k: usize)
 }
 
 // Writes k bytes of the plan from `at` on, forwards.
+#[tactic(auto, using(crate::proofs::Writes::after_none))]
 fn copy_on(store: &mut [u8], at: usize, plan: &[u8], k: usize)
     requires { (at + length plan.now ≤ length store.old) × (k ≤ length plan.now) }
     ensures { store.new ≡ after store.old (take k (copies at plan.now)) }
@@ -127,6 +132,7 @@ fn copy_on(store: &mut [u8], at: usize, plan: &[u8], k: usize)
 }
 
 // The writes of an append at `end`: zeros back from the store's last byte, then the plan forwards; `most` bytes at most.
+#[tactic(auto, using(crate::proofs::Writes::writes_two))]
 fn write_at(store: &mut [u8], plan: &[u8], end: usize, most: usize)
     requires { end + length plan.now ≤ length store.old }
     ensures { store.new ≡ after store.old (take most (writes_at (length store.old) end plan.now)) }
@@ -137,6 +143,7 @@ fn write_at(store: &mut [u8], plan: &[u8], end: usize, most: usize)
 }
 
 // Appends the plan, where power fails after `most` bytes were written. No byte changes where the append is refused.
+#[tactic(auto, using(crate::proofs::Rows::append_yes, crate::proofs::Rows::cut_leaves, crate::proofs::Rows::cut_writes))]
 pub fn append_cut(store: &mut [u8], plan: &[u8], most: usize) -> Appended
     ensures { (result ≡ append_of first_edition store.old plan.now)
         × (store.new ≡ cut_store first_edition store.old plan.now most) }
@@ -149,6 +156,7 @@ pub fn append_cut(store: &mut [u8], plan: &[u8], most: usize) -> Appended
 }
 
 // Appends the plan: the same, and power lasts for every byte that an append can write.
+#[tactic(auto, using(crate::proofs::Rows::cut_never))]
 pub fn append(store: &mut [u8], plan: &[u8]) -> Appended
     ensures { (result ≡ append_of first_edition store.old plan.now)
         × (store.new ≡ appended_store first_edition store.old plan.now) }
@@ -167,6 +175,7 @@ fn no_write(size: usize) -> Write
 }
 
 // Write k of an append that puts the plan at `end` in a store of `size` bytes: for a store that is written byte by byte, behind a device or in a file. None past the last, or where the plan does not fit.
+#[tactic(auto, using(crate::proofs::Writes::nth_beyond, crate::proofs::Writes::nth_zero, crate::proofs::Writes::nth_byte, crate::proofs::Writes::nth_past))]
 pub fn nth_write(size: usize, end: usize, plan: &[u8], k: usize) -> Write
     ensures { result ≡ nth_write size end plan.now k }
 {

@@ -1,4 +1,6 @@
 // What bench/run times beside the calls of hut, for C to call; no firmware needs it.
+#![tactic(auto)]
+
 ghost use Rattle.std.specs.Prelude.{◌≡◌};
 ghost use Rattle.verdict.specs.Count.{entries_in};
 

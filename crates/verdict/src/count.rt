@@ -67,6 +67,7 @@ fn entries_by_block(table: &[u8], job: usize, end: usize) -> usize
 }
 
 // How many entries of a job stand in a table before a slot: the one home of the question.
+#[tactic(auto, using(basics::proofs::Below::entries_zero), unfolding(crate::specs::Count::entries_in))]
 pub fn entries_before(table: &[u8], job: usize, slot: usize) -> usize
     ensures { result ≡ entries_in table.now job slot }
 {

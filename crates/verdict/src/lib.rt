@@ -1,4 +1,6 @@
 // The check of a list and its two tables.
+#![tactic(auto)]
+
 ghost use Rattle.std.specs.Prelude.{◌≡◌, not, ◌||◌, eqb, ltb};
 ghost use Rattle.basics.specs.Marks.{idle};
 ghost use Rattle.basics.specs.Limits.{first_edition};
@@ -21,7 +23,7 @@ pub(crate) const IDLE: usize = Table::IDLE as usize;
 pub(crate) const PAIRS: usize = MOST_JOBS * MOST_JOBS;
 
 // A fault: slot, job, the predecessor where it is one, and the switch slot.
-#[derive(Drop)]
+#[derive(Clone, Copy)]
 pub enum Fault {
     Late(usize, usize, usize),
     Early(usize, usize, usize),
@@ -29,7 +31,7 @@ pub enum Fault {
 }
 
 // Why the check says no: the list is refused, a table is not of L bytes, an entry names no job, or an execution goes wrong.
-#[derive(Drop)]
+#[derive(Clone, Copy)]
 pub enum Objection {
     OfList(Why),
     Size,
@@ -37,7 +39,7 @@ pub enum Objection {
     Bad(Fault),
 }
 
-#[derive(Drop)]
+#[derive(Clone, Copy)]
 pub enum Verdict {
     Yes,
     No(Objection),
@@ -49,7 +51,7 @@ impl Verdict {
 }
 
 // Where the check says no.
-#[derive(Drop)]
+#[derive(Clone, Copy)]
 pub enum Spot {
     InList(Place),
     AtSlot(usize),
@@ -57,14 +59,14 @@ pub enum Spot {
 }
 
 // What a search finds.
-#[derive(Drop)]
+#[derive(Clone, Copy)]
 pub enum Search {
     Fine,
     Found(Fault),
 }
 
 // The first that passes a test.
-#[derive(Drop)]
+#[derive(Clone, Copy)]
 pub enum First {
     At(usize),
     Nothing,
@@ -168,6 +170,7 @@ fn check_tables(list: &[u8], lo: &[u8], hi: &[u8]) -> Verdict
 }
 
 // The check of a list and two tables.
+#[tactic(auto, unfolding(crate::specs::Answer::check_of))]
 pub fn check(list: &[u8], lo: &[u8], hi: &[u8]) -> Verdict
     ensures { result ≡ check_of first_edition list.now lo.now hi.now }
 {

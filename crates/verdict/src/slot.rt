@@ -84,6 +84,7 @@ fn waits_for(
 }
 
 // The named job j: too early, or before a predecessor.
+#[tactic(auto, using(crate::proofs::Find::first_none, crate::proofs::Find::first_some), unfolding(frame::specs::Search::owed, crate::specs::Inner::named_told))]
 fn named_fault(
     list: &[u8],
     n: usize,
@@ -140,6 +141,7 @@ pub(crate) fn fault_at(
 }
 
 // Whether the job j, named in slot t, runs; one that does is a job, and has units left.
+#[tactic(auto, using(crate::proofs::Named::waits_none, crate::proofs::Named::waits_some), unfolding(frame::specs::Execution::runs, frame::specs::Execution::ready))]
 pub(crate) fn runs_at(
     list: &[u8],
     n: usize,

@@ -4,7 +4,6 @@ use mathlib.Core.Logic.{inl}
 use mathlib.Core.Path.{◌∙◌, ◌≡◌, ap, refl, subst, sym}
 use Prim.Native.Nat.{◌<◌, ℕ}
 use native.Mathlib.Omega.{arith}
-use Rattle.basics.specs.Units.{units_of}
 use Rattle.frame.proofs.Alike.{opening_more}
 use Rattle.frame.specs.Demand.{Real}
 use Rattle.frame.specs.Execution.{Bad, Badness, State, before, early, late, opening}

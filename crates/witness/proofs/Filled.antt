@@ -12,7 +12,6 @@ use lib.Dec.{eqb, leb}
 use lib.ListN.{length, length-replicate, length-set, replicate, set}
 use lib.Seq.{get_or-set_other, get_or-set_same}
 use Rattle.basics.proofs.Choice.{pick_false, pick_true}
-use Rattle.basics.specs.Choice.{pick}
 use Rattle.basics.specs.Marks.{no_switch}
 use Rattle.basics.specs.Units.{units_of}
 use Rattle.joblist.specs.Fields.{high, ordinary}

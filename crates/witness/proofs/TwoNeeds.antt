@@ -3,8 +3,8 @@
 use mathlib.Core.Bool.{true}
 use mathlib.Core.List.{List, [], ◌∷◌}
 use mathlib.Core.Logic.{◌⊎◌, inl, inr}
-use mathlib.Core.Path.{◌∙◌, ◌≡◌, ap, refl, subst, sym}
-use Prim.Native.Nat.{◌<◌, ◌≤◌, min, suc, zero, ℕ}
+use mathlib.Core.Path.{◌∙◌, ◌≡◌, ap, refl, sym}
+use Prim.Native.Nat.{◌<◌, ◌≤◌, min, suc, ℕ}
 use native.Mathlib.Decide.{ℕ_discrete}
 use native.Mathlib.Omega.{arith}
 use Rattle.basics.proofs.Below.{entries_else}
@@ -16,7 +16,7 @@ use Rattle.frame.proofs.Sound.{Behind, at_first, switched_at}
 use Rattle.frame.proofs.TwoLevels.{Two, in_hi, in_lo, two_modes}
 use Rattle.frame.proofs.UnitsTwo.{lo_units_lem}
 use Rattle.frame.specs.Demand.{Real}
-use Rattle.frame.specs.Execution.{State, Valid, opening, state}
+use Rattle.frame.specs.Execution.{State, Valid, opening}
 use Rattle.frame.specs.Jobs.{Frame, WellFormed}
 use Rattle.frame.specs.Search.{Fault, needs_after}
 use Rattle.frame.specs.TwoLevels.{CHI, CLO}

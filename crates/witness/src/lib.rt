@@ -1,4 +1,6 @@
 // The execution that goes wrong where the check names a fault: how many units each job needs.
+#![tactic(auto)]
+
 ghost use Rattle.std.specs.Prelude.{◌≡◌};
 ghost use Rattle.basics.specs.Limits.{first_edition};
 ghost use Rattle.witness.specs.Needs.{witness_of};

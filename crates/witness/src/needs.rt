@@ -29,6 +29,7 @@ pub(crate) fn switch_in(f: Fault) -> usize
 }
 
 // Whether job j needs no more than CLO: there is no switch, or it had ended when the job of slot x in table LO switched.
+#[tactic(auto, unfolding(crate::specs::Needs::ended))]
 fn keeps_clo(list: &[u8], lo: &[u8], x: usize, j: usize) -> bool
     requires { (job_at j + job_bytes ≤ length list.now) × (x ≤ no_switch) }
     ensures { result ≡ (eqb x no_switch || ended list.now lo.now x j) }
@@ -43,6 +44,7 @@ fn keeps_clo(list: &[u8], lo: &[u8], x: usize, j: usize) -> bool
 }
 
 // CLO or CHI, as wide as a budget is.
+#[tactic(auto, unfolding(basics::specs::Choice::pick))]
 fn clo_or_chi(keeps: bool, clo: usize, chi: usize) -> u16
     requires { (clo < 65536) × (chi < 65536) }
     ensures { result ≡ pick keeps clo chi }
@@ -54,6 +56,7 @@ fn clo_or_chi(keeps: bool, clo: usize, chi: usize) -> u16
 }
 
 // What job j needs, where the switch is at x.
+#[tactic(auto, unfolding(crate::specs::Needs::need_of))]
 fn need_of(list: &[u8], lo: &[u8], x: usize, j: usize) -> u16
     requires { (job_at j + job_bytes ≤ length list.now) × (x ≤ no_switch) }
     ensures { result ≡ need_of list.now lo.now x j }
@@ -66,6 +69,7 @@ fn need_of(list: &[u8], lo: &[u8], x: usize, j: usize) -> u16
 }
 
 // What each of n jobs needs; zeros past them.
+#[tactic(auto, using(crate::proofs::Filled::needs_none, crate::proofs::Filled::needs_more))]
 pub(crate) fn needs_to(list: &[u8], lo: &[u8], x: usize, n: usize) -> [u16; MOST_JOBS]
     requires { (n ≤ first_edition.jobs) × (job_at n ≤ length list.now) × (x ≤ no_switch) }
     ensures { result ≡ needs_to first_edition.jobs list.now lo.now x n }

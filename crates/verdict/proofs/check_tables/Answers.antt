@@ -1,0 +1,72 @@
+-- The rows in their order, and the search last.
+-- Assumes nothing.
+use Rattle.std.proofs.Common.{◌∙◌, sym, arith}
+use Rattle.basics.specs.Limits.{first_edition}
+use Rattle.joblist.proofs.Accepted.{accepted}
+use Rattle.verdict.proofs.Tables.{entry_hi, entry_lo, says_no, says_yes, searchable, size_hi, size_lo}
+use Rattle.verdict.proofs.check_tables.Goals as goal
+
+pub jobs_of-n-requires : goal.jobs_of-n-requires
+jobs_of-n-requires c = let A = accepted first_edition c.args.list.now c.requires in omega (arith, A.fits)
+
+pub edges_of-m-requires : goal.edges_of-m-requires
+edges_of-m-requires c = let A = accepted first_edition c.args.list.now c.requires in omega (arith, A.fits)
+
+pub slots_of-l-requires : goal.slots_of-l-requires
+slots_of-l-requires c = let A = accepted first_edition c.args.list.now c.requires in omega (arith, A.fits)
+
+pub returns-then-lo-l : goal.returns-then-lo-l
+returns-then-lo-l c =
+    let a = c.args in
+    let n = c.jobs_of-n in
+    let m = c.edges_of-m in
+    let l = c.slots_of-l in
+    size_lo a.list.now a.lo.now a.hi.now n.result m.result l.result n.ensures.0 m.ensures.0 l.ensures.0 c.if-lo-l.true
+
+pub returns-then-hi-l : goal.returns-then-hi-l
+returns-then-hi-l c =
+    let a = c.args in
+    let n = c.jobs_of-n in
+    let m = c.edges_of-m in
+    let l = c.slots_of-l in
+    size_hi a.list.now a.lo.now a.hi.now n.result m.result l.result n.ensures.0 m.ensures.0 l.ensures.0 c.if-lo-l.false c.if-hi-l.true
+
+pub returns-in-At : goal.returns-in-At
+returns-in-At c =
+    let a = c.args in
+    let n = c.jobs_of-n in
+    let m = c.edges_of-m in
+    let l = c.slots_of-l in
+    entry_lo a.list.now a.lo.now a.hi.now n.result m.result l.result n.ensures.0 m.ensures.0 l.ensures.0 c.if-lo-l.false c.if-hi-l.false _ (sym c.first_odd.ensures ∙ c.in-At.is)
+
+pub returns-in-At-first_odd : goal.returns-in-At-first_odd
+returns-in-At-first_odd c =
+    let a = c.args in
+    let n = c.jobs_of-n in
+    let m = c.edges_of-m in
+    let l = c.slots_of-l in
+    entry_hi a.list.now a.lo.now a.hi.now n.result m.result l.result n.ensures.0 m.ensures.0 l.ensures.0 c.if-lo-l.false c.if-hi-l.false (sym c.first_odd.ensures ∙ c.in_default.is) _ (sym c.first_odd-2.ensures ∙ c.in-At-first_odd.is)
+
+pub search_tables-requires : goal.search_tables-requires
+search_tables-requires c =
+    let a = c.args in
+    let n = c.jobs_of-n in
+    let m = c.edges_of-m in
+    let l = c.slots_of-l in
+    searchable a.list.now a.lo.now a.hi.now n.result m.result l.result n.ensures.0 m.ensures.0 l.ensures.0 (accepted first_edition a.list.now c.requires) c.if-lo-l.false
+
+pub returns-in-Fine : goal.returns-in-Fine
+returns-in-Fine c =
+    let a = c.args in
+    let n = c.jobs_of-n in
+    let m = c.edges_of-m in
+    let l = c.slots_of-l in
+    says_yes a.list.now a.lo.now a.hi.now n.result m.result l.result n.ensures.0 m.ensures.0 l.ensures.0 c.if-lo-l.false c.if-hi-l.false (sym c.first_odd.ensures ∙ c.in_default.is) (sym c.first_odd-2.ensures ∙ c.in_default-first_odd.is) first_edition c.requires c.search_tables.result c.search_tables.ensures c.in-Fine.is
+
+pub returns-in-Found : goal.returns-in-Found
+returns-in-Found c =
+    let a = c.args in
+    let n = c.jobs_of-n in
+    let m = c.edges_of-m in
+    let l = c.slots_of-l in
+    says_no a.list.now a.lo.now a.hi.now n.result m.result l.result n.ensures.0 m.ensures.0 l.ensures.0 c.if-lo-l.false c.if-hi-l.false (sym c.first_odd.ensures ∙ c.in_default.is) (sym c.first_odd-2.ensures ∙ c.in_default-first_odd.is) first_edition c.requires c.search_tables.result c.search_tables.ensures _ c.in-Found.is
