@@ -1,4 +1,6 @@
 // The builder: the merge method, slot for slot, and the plan of the pair that it makes.
+#![tactic(auto)]
+
 ghost use Rattle.std.specs.Prelude.{◌≡◌, ℕ, ◌+◌, ◌≤◌, length};
 ghost use Rattle.basics.specs.Limits.{first_edition};
 ghost use Rattle.joblist.specs.Fields.{jobs, edges, slots};
