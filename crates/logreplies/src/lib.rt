@@ -1,4 +1,6 @@
 // The answer to each request of the log, on a store that is lent.
+#![tactic(auto)]
+
 mod call;
 
 use logwalk::{Found, Span};

@@ -1,4 +1,6 @@
 // What is said of a log, on a page.
+#![tactic(auto)]
+
 use joblist::Place;
 use jobtext::{Names, list};
 use logwalk::{FindWhy, Found, STORE_MOST, Span};

@@ -1,4 +1,6 @@
 // One field of the dispatcher's state: set to any value that it can hold.
+#![tactic(auto)]
+
 use dispatch::state::State;
 use joblist::{MOST_EDGES, MOST_JOBS, MOST_SLOTS};
 use parts::plan;

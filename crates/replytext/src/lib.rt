@@ -1,4 +1,6 @@
 // The parts of an answer line: a number, and the places that it has.
+#![tactic(auto)]
+
 use joblist::Place;
 use merge::BuildPlace;
 use page::Page;

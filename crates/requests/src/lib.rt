@@ -1,4 +1,6 @@
 // Requests, a line each: what a line asks, with its bytes decoded.
+#![tactic(auto)]
+
 mod decoded;
 mod fields;
 mod log;

@@ -1,4 +1,6 @@
 // The dispatcher, tick by tick: over a text of ticks and marks, or over ticks made here.
+#![tactic(auto)]
+
 use dispatch::state::{State, Stepped};
 use files::{Piece, fail, read_more};
 use joblist::{MOST_JOBS, Place, wide};
