@@ -10,7 +10,7 @@ use joblist::{HEAD_BYTES, JOB_BYTES, MOST_SLOTS};
 use parts::plan::{Counts, ENDS, ENTRIES, JOBS, NUMBERS, Plan};
 use planfile::ReadAnswer;
 
-#[derive(Drop)]
+#[derive(Clone, Copy)]
 pub struct Opened {
     pub answer: ReadAnswer,
     pub state: State,

@@ -10,7 +10,7 @@ use machine::step;
 use parts::plan::Plan;
 
 #[repr(C)]
-#[derive(Drop)]
+#[derive(Clone, Copy)]
 pub struct State {
     pub plan: Plan,
     pub head: Head,
@@ -19,7 +19,7 @@ pub struct State {
     pub cut: [u8; MOST_JOBS],
 }
 
-#[derive(Drop)]
+#[derive(Clone, Copy)]
 pub struct Stepped {
     pub answer: Answer,
     pub state: State,

@@ -1,6 +1,6 @@
 -- Table HI, slot t from 0, with a row of owed units, its front first.
 -- Assumes nothing.
-use Rattle.std.specs.Prelude.{ℕ, zero, suc, ◌+◌, ◌-◌, List, [], ◌∷◌, ◌++◌, Bool, true, false, cond, ◌&&◌, set, replicate, ltb, eqb}
+use Rattle.std.specs.Prelude.{ℕ, zero, suc, ◌+◌, ◌-◌, List, [], ◌∷◌, ◌++◌, Bool, cond, ◌&&◌, set, replicate, ltb, eqb}
 use Rattle.joblist.specs.Fields.{jobs, slots, ordinary, high, level}
 use Rattle.late.specs.Table.{entry, units, all_idle}
 

@@ -1,13 +1,15 @@
 // Table HI. All functions here are inner ones: they are called on lists that the list's check accepts, and on tables of L bytes.
 // The row of owed units is kept as runs of a job: run i is job[i], and more[i] further units of it, for i from head to tail - 1. It begins in the
 // middle of its room; a slot adds at most one run at each end, so that nothing is ever cut off.
+#![tactic(auto)]
+
 ghost use Rattle.std.specs.Prelude.{◌≡◌, List, [], ◌∷◌, ◌++◌, ℕ, ◌+◌, ◌-◌, ◌*◌, ◌<◌, ◌≤◌, length, get_or, replicate};
 ghost use Rattle.basics.specs.Units.{units_of};
 ghost use Rattle.basics.specs.Limits.{first_edition};
 ghost use Rattle.joblist.specs.Fields.{jobs, slots};
 ghost use Rattle.joblist.specs.Accepted.{Accepted};
 ghost use Rattle.hitable.specs.TableHi.{is_high, front, turn, owing, hi_at};
-ghost use Rattle.hitable.specs.Runs.{row_of, roomy};
+ghost use Rattle.hitable.specs.Runs.{row_of, IsRoomy};
 
 use joblist::{MOST_JOBS, MOST_SLOTS, high_of, jobs_of, level_of, ordinary_of, wide};
 use late::{one_more, wide16};
@@ -24,9 +26,9 @@ pub struct Placed {
 
 // One unit more at the back.
 fn join_back(job: &mut [u8; ROOM], more: &mut [u16; ROOM], head: usize, tail: usize, x: u8)
-    requires { roomy job.old more.old × (head ≤ tail) × (tail < 2 * first_edition.slots) }
+    requires { IsRoomy job.old more.old × (head ≤ tail) × (tail < 2 * first_edition.slots) }
     ensures { (row_of job.new more.new head (tail + 1) ≡ row_of job.old more.old head tail ++ (x ∷ []))
-        × roomy job.new more.new }
+        × IsRoomy job.new more.new }
 {
     job[tail] = x;
     more[tail] = 0;
@@ -41,9 +43,9 @@ fn put_front(
     x: u8,
     k: u16,
 ) -> usize
-    requires { roomy job.old more.old × (1 ≤ head) × (head ≤ tail) × (tail ≤ 2 * first_edition.slots) }
+    requires { IsRoomy job.old more.old × (1 ≤ head) × (head ≤ tail) × (tail ≤ 2 * first_edition.slots) }
     ensures { (row_of job.new more.new result tail ≡ replicate k x ++ row_of job.old more.old head tail)
-        × roomy job.new more.new × (result ≤ head) × (head ≤ result + 1) }
+        × IsRoomy job.new more.new × (result ≤ head) × (head ≤ result + 1) }
 {
     if k == 0 {
         return head;
@@ -54,10 +56,11 @@ fn put_front(
 }
 
 // The front unit is taken off a row that is not empty; where the row then begins.
+#[tactic(auto, using(crate::proofs::Laws::row_last))]
 fn take_front(job: &[u8; ROOM], more: &mut [u16; ROOM], head: usize, tail: usize) -> usize
-    requires { roomy job.now more.old × (head < tail) × (tail ≤ 2 * first_edition.slots) }
+    requires { IsRoomy job.now more.old × (head < tail) × (tail ≤ 2 * first_edition.slots) }
     ensures { (row_of job.now more.old head tail ≡ get_or job.now head 0 ∷ row_of job.now more.new result tail)
-        × roomy job.now more.new × (head ≤ result) × (result ≤ tail) }
+        × IsRoomy job.now more.new × (head ≤ result) × (result ≤ tail) }
 {
     let k = more[head];
     if k == 0 {
@@ -68,11 +71,12 @@ fn take_front(job: &[u8; ROOM], more: &mut [u16; ROOM], head: usize, tail: usize
 }
 
 // The front unit, or x where the row is empty.
+#[tactic(auto, using(crate::proofs::Laws::row_empty))]
 fn front_of(job: &[u8; ROOM], more: &mut [u16; ROOM], head: usize, tail: usize, x: u8) -> Placed
-    requires { roomy job.now more.old × (head ≤ tail) × (tail ≤ 2 * first_edition.slots) }
+    requires { IsRoomy job.now more.old × (head ≤ tail) × (tail ≤ 2 * first_edition.slots) }
     ensures { (result.unit ≡ (front (row_of job.now more.old head tail) x).unit)
         × (row_of job.now more.new result.head result.tail ≡ (front (row_of job.now more.old head tail) x).row)
-        × roomy job.now more.new × (head ≤ result.head) × (result.head ≤ result.tail) × (result.tail ≡ tail) }
+        × IsRoomy job.now more.new × (head ≤ result.head) × (result.head ≤ result.tail) × (result.tail ≡ tail) }
 {
     if head < tail {
         let u = job[head];
@@ -91,6 +95,7 @@ fn front_of(job: &[u8; ROOM], more: &mut [u16; ROOM], head: usize, tail: usize, 
 }
 
 // Whether x is a high job.
+#[tactic(auto, unfolding(crate::specs::TableHi::is_high))]
 fn is_high(s: &[u8], x: u8) -> bool
     requires { Accepted first_edition s.now }
     ensures { result ≡ is_high s.now x }
@@ -103,6 +108,7 @@ fn is_high(s: &[u8], x: u8) -> bool
 }
 
 // The unit for a slot where table LO has x and THI, as first made, y.
+#[tactic(auto, unfolding(crate::specs::TableHi::turn))]
 fn turn_of(
     s: &[u8],
     x: u8,
@@ -112,10 +118,10 @@ fn turn_of(
     head: usize,
     tail: usize,
 ) -> Placed
-    requires { Accepted first_edition s.now × roomy job.old more.old × (head ≤ tail) × (tail < 2 * first_edition.slots) }
+    requires { Accepted first_edition s.now × IsRoomy job.old more.old × (head ≤ tail) × (tail < 2 * first_edition.slots) }
     ensures { (result.unit ≡ (turn s.now x y (row_of job.old more.old head tail)).unit)
         × (row_of job.new more.new result.head result.tail ≡ (turn s.now x y (row_of job.old more.old head tail)).row)
-        × roomy job.new more.new × (head ≤ result.head) × (result.head ≤ result.tail) × (result.tail ≤ tail + 1) }
+        × IsRoomy job.new more.new × (head ≤ result.head) × (result.head ≤ result.tail) × (result.tail ≤ tail + 1) }
 {
     if is_high(s, x) {
         if y == x {
@@ -132,6 +138,7 @@ fn turn_of(
 }
 
 // The further units of u where it has had its CLO-th: CHI - CLO, otherwise none.
+#[tactic(auto, using(crate::proofs::Laws::owing_more, crate::proofs::Laws::owing_not, crate::proofs::Laws::owing_idle))]
 fn further_of(s: &[u8], placed: &[u16; MOST_JOBS], u: u8) -> u16
     requires { Accepted first_edition s.now }
     ensures { (row : List ℕ) → owing s.now u (units_of placed.now u) row ≡ replicate result u ++ row }

@@ -135,6 +135,7 @@ pub(crate) fn says(number: usize, place: Place) -> Answer
 }
 
 // The check.
+#[tactic(auto, using(crate::proofs::Parts::same_says), unfolding(crate::specs::Calls::check_answer))]
 pub(crate) fn check_answer(v: Verdict) -> Answer
     ensures { result ≡ check_answer v }
 {
@@ -156,6 +157,7 @@ fn counts_of(a: ReadAnswer) -> Shape
 }
 
 // What reading answers.
+#[tactic(auto, using(crate::proofs::Parts::same_says), unfolding(crate::specs::Calls::read_answer))]
 pub(crate) fn read_answer(a: ReadAnswer) -> Answer
     ensures { result ≡ read_answer a }
 {
@@ -166,6 +168,7 @@ pub(crate) fn read_answer(a: ReadAnswer) -> Answer
 }
 
 // Reading: the answer and the counts.
+#[tactic(auto, using(crate::proofs::Parts::same_result), unfolding(crate::specs::Calls::read_result))]
 pub(crate) fn read_result(a: ReadAnswer) -> ReadResult
     ensures { result ≡ read_result a }
 {
@@ -189,6 +192,7 @@ fn wrote_length(w: Wrote) -> usize
 }
 
 // Writing.
+#[tactic(auto, using(crate::proofs::Parts::same_parts), unfolding(crate::specs::Calls::write_answer))]
 pub(crate) fn write_answer(w: Wrote) -> Answer
     ensures { result ≡ write_answer w }
 {
@@ -211,6 +215,7 @@ fn built_length(b: Built) -> usize
 }
 
 // Building.
+#[tactic(auto, using(crate::proofs::Parts::same_parts), unfolding(crate::specs::Calls::build_answer))]
 pub(crate) fn build_answer(b: Built) -> Answer
     ensures { result ≡ build_answer b }
 {
@@ -233,6 +238,7 @@ fn order_of(a: machine::answer::Answer) -> usize
 }
 
 // A step.
+#[tactic(auto, using(crate::proofs::Parts::same_parts), unfolding(crate::specs::Calls::step_answer))]
 pub(crate) fn step_answer(a: machine::answer::Answer) -> Answer
     ensures { result ≡ step_answer a }
 {

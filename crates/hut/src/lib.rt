@@ -1,4 +1,6 @@
 // The library for firmware in C: each call of the desk, over bytes that the caller lends and one state. include/hut.h declares it.
+#![tactic(auto)]
+
 ghost use Rattle.std.specs.Prelude.{◌≡◌, length};
 ghost use Rattle.basics.specs.Limits.{first_edition};
 ghost use Rattle.verdict.specs.Answer.{check_of};
@@ -28,7 +30,7 @@ mod log;
 
 // Where; what a place has not got is Answer::ABSENT.
 #[repr(C)]
-#[derive(Drop)]
+#[derive(Clone, Copy)]
 pub struct Place {
     pub fault: usize,
     pub slot: usize,
@@ -40,7 +42,7 @@ pub struct Place {
 
 // The paper's number, 0 for yes, with its place; a step's order; the length of a plan that was built or written.
 #[repr(C)]
-#[derive(Drop)]
+#[derive(Clone, Copy)]
 pub struct Answer {
     pub number: usize,
     pub place: Place,
@@ -50,7 +52,7 @@ pub struct Answer {
 
 // What reading answers, with the counts n, m and L on yes.
 #[repr(C)]
-#[derive(Drop)]
+#[derive(Clone, Copy)]
 pub struct ReadResult {
     pub answer: Answer,
     pub jobs: usize,
@@ -60,7 +62,7 @@ pub struct ReadResult {
 
 // An answer beside a dispatcher's state. The last field is 0: it stands where C would pad.
 #[repr(C)]
-#[derive(Drop)]
+#[derive(Clone, Copy)]
 pub struct Running {
     pub answer: Answer,
     pub state: State,
@@ -69,7 +71,7 @@ pub struct Running {
 
 // A step's answer beside the head that it leaves.
 #[repr(C)]
-#[derive(Drop)]
+#[derive(Clone, Copy)]
 pub struct Moved {
     pub answer: Answer,
     pub head: Head,
@@ -77,7 +79,7 @@ pub struct Moved {
 
 // What the log answers: on yes where the plan begins in the store, and its bytes.
 #[repr(C)]
-#[derive(Drop)]
+#[derive(Clone, Copy)]
 pub struct LogAnswer {
     pub answer: Answer,
     pub at: usize,
@@ -86,7 +88,7 @@ pub struct LogAnswer {
 
 // A byte to write into a store, and its place there.
 #[repr(C)]
-#[derive(Drop)]
+#[derive(Clone, Copy)]
 pub struct LogByte {
     pub place: usize,
     pub byte: usize,
@@ -132,6 +134,7 @@ pub extern "C" fn hut_build(list: &[u8], out: &mut [u8]) -> Answer
 }
 
 // A state for the plan in the bytes, whose next tick is `first`: by value, for C to keep. All zero where the answer is no.
+#[tactic(auto, unfolding(crate::specs::Calls::opened))]
 #[unsafe(no_mangle)]
 pub extern "C" fn hut_open(plan: &[u8], first: u16) -> Running
     ensures { result ≡ opened (open_of first_edition plan.now first) }
@@ -203,6 +206,7 @@ pub extern "C" fn hut_step(s: &mut State, tick: u16, ended: u8) -> Answer
 }
 
 // The check, and behind a fault what each job needs in an execution that goes wrong as it says: every entry of `needs`.
+#[tactic(auto, unfolding(crate::specs::Why::why_answer))]
 #[unsafe(no_mangle)]
 pub extern "C" fn hut_why(list: &[u8], lo: &[u8], hi: &[u8], needs: &mut [u16; MOST_JOBS]) -> Answer
     ensures { (result ≡ why_answer first_edition list.now lo.now hi.now)

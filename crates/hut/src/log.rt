@@ -51,6 +51,7 @@ fn log_answer(answer: Answer, p: Span) -> LogAnswer
 }
 
 // An append of so many bytes, and where it would put them.
+#[tactic(auto, using(crate::proofs::Parts::same_log), unfolding(crate::specs::Log::append_answer))]
 pub(crate) fn append_answer(a: Appended, bytes: usize) -> LogAnswer
     ensures { result ≡ append_answer a bytes }
 {
@@ -64,6 +65,7 @@ pub(crate) fn append_answer(a: Appended, bytes: usize) -> LogAnswer
 }
 
 // A plan looked for.
+#[tactic(auto, using(crate::proofs::Parts::same_log), unfolding(crate::specs::Log::found_answer))]
 pub(crate) fn found_answer(f: Found) -> LogAnswer
     ensures { result ≡ found_answer f }
 {

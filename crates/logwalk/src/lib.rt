@@ -13,20 +13,20 @@ use planfile::{LEAST_BYTES, ReadAnswer, TRAILER_BYTES};
 pub const STORE_MOST: usize = 65536;
 
 // A plan in a store: where it begins, and how many bytes it has.
-#[derive(Drop)]
+#[derive(Clone, Copy)]
 pub struct Span {
     pub start: usize,
     pub size: usize,
 }
 
 // Why no plan was found.
-#[derive(Drop)]
+#[derive(Clone, Copy)]
 pub enum FindWhy {
     Large,
     Empty,
 }
 
-#[derive(Drop)]
+#[derive(Clone, Copy)]
 pub enum Found {
     Plan(Span),
     No(FindWhy),

@@ -18,7 +18,7 @@ pub enum Why {
 }
 
 // An order, which is a job's number or idle; or why not.
-#[derive(Drop)]
+#[derive(Clone, Copy)]
 pub enum Answer {
     Order(u8),
     No(Why),

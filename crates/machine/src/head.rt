@@ -27,7 +27,7 @@ pub struct Head {
 }
 
 // An answer beside the head that it leaves.
-#[derive(Drop)]
+#[derive(Clone, Copy)]
 pub struct Turned {
     pub answer: Answer,
     pub head: Head,

@@ -16,7 +16,7 @@ use parts::plan::{Counts, ENDS, ENTRIES, JOBS, Plan};
 use parts::scan;
 
 // Whether a step is refused, and why.
-#[derive(Drop)]
+#[derive(Clone, Copy)]
 pub enum Test {
     Pass,
     Refuse(Why),

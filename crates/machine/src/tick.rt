@@ -2,7 +2,7 @@
 ghost use Rattle.std.specs.Prelude.{◌≡◌};
 ghost use Rattle.machine.specs.Tick.{tick_of};
 
-#[derive(Drop)]
+#[derive(Clone, Copy)]
 pub enum Tick {
     Next,
     Same,

@@ -1,4 +1,6 @@
 // The builder: the merge method, slot for slot, and the plan of the pair that it makes.
+#![tactic(auto)]
+
 ghost use Rattle.std.specs.Prelude.{◌≡◌, ℕ, ◌+◌, ◌≤◌, length};
 ghost use Rattle.basics.specs.Limits.{first_edition};
 ghost use Rattle.joblist.specs.Fields.{jobs, edges, slots};
@@ -20,7 +22,7 @@ use planfile::TRAILER_BYTES;
 use verdict::Verdict;
 
 // Why no plan is built, with the place; where the check says no to the pair, its whole answer.
-#[derive(Drop)]
+#[derive(Clone, Copy)]
 pub enum BuildWhy {
     OfList(Why),
     Room,
@@ -32,21 +34,21 @@ pub enum BuildWhy {
 }
 
 // A pair of tables, before the check, or why there is none.
-#[derive(Drop)]
+#[derive(Clone, Copy)]
 pub enum Pair {
     Made,
     No(BuildWhy),
 }
 
 // A plan, with its length, or why there is none.
-#[derive(Drop)]
+#[derive(Clone, Copy)]
 pub enum Built {
     Plan(usize),
     No(BuildWhy),
 }
 
 // Where a build is refused.
-#[derive(Drop)]
+#[derive(Clone, Copy)]
 pub enum BuildPlace {
     InList(Place),
     AtJob(usize, usize),

@@ -36,7 +36,7 @@ pub struct Counts {
 
 // The numbers job by job; the edges as pairs, p and s; table LO, and table HI from MOST_SLOTS on.
 #[repr(C)]
-#[derive(Drop)]
+#[derive(Clone, Copy)]
 pub struct Plan {
     pub counts: Counts,
     pub jobs: [u16; JOBS],

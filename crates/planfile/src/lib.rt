@@ -23,7 +23,7 @@ pub const TRAILER_BYTES: usize = 8;
 pub const LEAST_BYTES: usize = HEAD_BYTES + TRAILER_BYTES;
 
 // Why bytes are no plan.
-#[derive(Drop)]
+#[derive(Clone, Copy)]
 pub enum ReadWhy {
     Short,
     Mark,
@@ -32,27 +32,27 @@ pub enum ReadWhy {
 }
 
 // The counts n and m, and the frame length L.
-#[derive(Drop)]
+#[derive(Clone, Copy)]
 pub struct Shape {
     pub jobs: usize,
     pub edges: usize,
     pub slots: usize,
 }
 
-#[derive(Drop)]
+#[derive(Clone, Copy)]
 pub enum ReadAnswer {
     Plan(Shape),
     No(ReadWhy),
 }
 
 // Why nothing was written.
-#[derive(Drop)]
+#[derive(Clone, Copy)]
 pub enum WriteWhy {
     Checked(Objection),
     Room,
 }
 
-#[derive(Drop)]
+#[derive(Clone, Copy)]
 pub enum Wrote {
     Bytes(usize),
     No(WriteWhy),

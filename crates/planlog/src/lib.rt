@@ -16,14 +16,14 @@ use verdict::Spot;
 const WRITES_MOST: usize = 2 * STORE_MOST;
 
 // One byte written into a store.
-#[derive(Drop)]
+#[derive(Clone, Copy)]
 pub struct Write {
     pub place: usize,
     pub byte: u8,
 }
 
 // Why a plan was not appended.
-#[derive(Drop)]
+#[derive(Clone, Copy)]
 pub enum AppendWhy {
     Large,
     Refused(ReadWhy),
@@ -31,7 +31,7 @@ pub enum AppendWhy {
 }
 
 // Where the plan begins that was appended.
-#[derive(Drop)]
+#[derive(Clone, Copy)]
 pub enum Appended {
     At(usize),
     No(AppendWhy),

@@ -11,7 +11,7 @@ use verdict::count::{entries_before, entry_at};
 use verdict::{Fault, Verdict};
 
 // The check's answer, and what each job needs in an execution that is bad as it says; zeros where it names no fault.
-#[derive(Drop)]
+#[derive(Clone, Copy)]
 pub struct Witness {
     pub verdict: Verdict,
     pub needs: [u16; MOST_JOBS],
