@@ -1,4 +1,6 @@
 // A plan as C for firmware: its bytes and their number, and over them, for people, what is in it.
+#![tactic(auto)]
+
 mod name;
 
 use jobtext::{Names, put_list};

@@ -1,4 +1,6 @@
 // A plan's two tables drawn to scale in the columns of a terminal.
+#![tactic(auto)]
+
 pub mod plan;
 mod terminal;
 

@@ -76,6 +76,7 @@ pub(crate) fn found_answer(f: Found) -> LogAnswer
 }
 
 // One byte written.
+#[tactic(auto, unfolding(crate::specs::Log::log_byte))]
 pub(crate) fn log_byte(w: Write) -> LogByte
     ensures { result ≡ log_byte w }
 {

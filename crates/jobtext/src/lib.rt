@@ -1,4 +1,6 @@
 // The job list as people write it, a line a job and a line an edge: read into a list's bytes, and written again.
+#![tactic(auto)]
+
 pub mod line;
 pub mod list;
 mod mistake;

@@ -1,4 +1,6 @@
 // The night on which a plan goes wrong, as an SVG picture: the slots that ran are full, and those that did not are hollow.
+#![tactic(auto)]
+
 use jobtext::{Names, list};
 use nights::night::{Night, Slot};
 use nights::{budgets, slot_of, witness_of};

@@ -1,4 +1,6 @@
 // The night on which a plan goes wrong: the execution behind a fault of the check, told slot by slot.
+#![tactic(auto)]
+
 use jobtext::Names;
 use page::Page;
 use planfile::{high_of, list_of, low_of};

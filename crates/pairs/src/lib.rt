@@ -1,5 +1,7 @@
 // What a command is given: a plan file, with a job list that lends its names; or a job list, with its two tables drawn by
 // hand. Both come out as the bytes of a plan with the names of its jobs, so that a command is made once.
+#![tactic(auto)]
+
 use files::{File, MOST, complain, send};
 use jobtext::{Jobs, Names, list};
 use page::Page;

@@ -1,4 +1,6 @@
 // A plan's two tables as an SVG picture.
+#![tactic(auto)]
+
 use drawing::plan::{entry, list_of, switches};
 use drawing::put_counts;
 use jobtext::{Names, list};

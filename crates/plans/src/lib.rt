@@ -1,5 +1,7 @@
 // What building, writing and checking say, on a page. The calls stand here by themselves: what they promise is proved where
 // they are made, and no page needs it.
+#![tactic(auto)]
+
 use drawing::put_counts;
 use joblist::{EDGE_BYTES, HEAD_BYTES, JOB_BYTES, ListAnswer, MOST_EDGES, MOST_JOBS, MOST_SLOTS};
 use jobtext::Names;

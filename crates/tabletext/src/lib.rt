@@ -1,4 +1,6 @@
 // Two tables as people write them, a line a run of slots: read into the tables' bytes, and written again.
+#![tactic(auto)]
+
 mod mistake;
 mod reader;
 mod writer;

@@ -53,6 +53,7 @@ fn entries_within(table: &[u8], job: usize, from: usize, to: usize) -> usize
 }
 
 // How many of the entries before `end` name a job: block after block, and what is left.
+#[tactic(auto, using(basics::proofs::Below::entries_zero, crate::proofs::Entries::entries_most))]
 fn entries_by_block(table: &[u8], job: usize, end: usize) -> usize
     requires { end ≤ length table.now }
     ensures { result ≡ entries_before (entry_at table.now) job end }

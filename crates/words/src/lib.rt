@@ -1,4 +1,6 @@
 // Every refusal in words: what its number means, what to do about it, and where it is.
+#![tactic(auto)]
+
 mod number;
 mod told;
 

@@ -10,7 +10,7 @@ use Rattle.verdict.proofs.count.entries_within.Goals.{then-table-t, else-table-t
 pub returns-then-job-gt-LARGEST_ENTRY : goal.returns-then-job-gt-LARGEST_ENTRY
 returns-then-job-gt-LARGEST_ENTRY c =
     let a = c.args in
-    let none = none_before a.table.now (λ i. omega (arith, c.type_inv.table i)) a.job c.if-job-gt-LARGEST_ENTRY.true in
+    let none = none_before a.table.now (λ i. omega (arith, c.type_inv.table i)) a.job (omega arith) in
     omega (arith, none a.from, none a.to)
 
 pub loop-t-preserved : goal.loop-t-preserved
