@@ -33,6 +33,8 @@ pub put_plan-requires : goal.put_plan-requires
 put_plan-requires c =
     let a = c.args in
     let p = c.requires in
+    let low : length a.low.now ≡ slots a.list.now = ap length p.1 ∙ length-replicate _ _ in
+    let left : length a.left.now ≡ slots a.list.now = ap length p.3 ∙ length-replicate _ _ in
     let lo : length a.lo.now ≡ slots a.list.now = ap length p.4 ∙ length-replicate _ _ in
     let hi : length a.hi.now ≡ slots a.list.now = ap length p.5 ∙ length-replicate _ _ in
     let list = list_length first_edition a.list.now p.0 in
