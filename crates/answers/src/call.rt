@@ -1,12 +1,12 @@
 // The proved calls without their contracts, which no answer needs.
 use dispatch::open::Opened;
 use dispatch::state::{State, Stepped};
-use joblist::ListAnswer;
+use joblist::Why;
 use merge::Built;
 use planfile::{ReadAnswer, Wrote};
 use verdict::Verdict;
 
-pub(crate) fn check_list(list: &[u8]) -> ListAnswer {
+pub(crate) fn check_list(list: &[u8]) -> Result<(), Why> {
     joblist::check_list(list)
 }
 

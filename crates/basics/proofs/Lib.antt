@@ -1,6 +1,7 @@
 pub mod Tests
 pub mod Choice
 pub mod Turns
+pub mod Chain
 pub mod Find
 pub mod Below
 pub mod Units

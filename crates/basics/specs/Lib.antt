@@ -1,5 +1,6 @@
 pub mod Choice
 pub mod Turns
+pub mod Chain
 pub mod Find
 pub mod Below
 pub mod Units

@@ -1,4 +1,4 @@
--- A list that gets Good is accepted: what follows from an answer of Good.
+-- A list that gets yes is accepted: what follows from that answer.
 -- Assumes nothing.
 use Prim.Native.Nat.{ℕ, zero, suc, ◌≤◌, ◌<◌, max}
 use mathlib.Core.Path.{◌≡◌, ap}
@@ -12,21 +12,22 @@ use lib.Dec.{leb, eqb}
 use Rattle.basics.specs.Limits.{Limits}
 use Rattle.joblist.specs.Fields.{head_bytes, list_bytes, head_zero, jobs, edges, slots, deadline, high, level, edge_in}
 use Rattle.joblist.specs.Cycle.{cyclic, Edge, Named}
-use Rattle.joblist.specs.Answer.{need, each, counts_answer, zero_answer, job_answer, edge_answer, body_answer, front_answer, list_answer, largest}
+use Rattle.basics.specs.Chain.{need, each}
+use Rattle.joblist.specs.Answer.{counts_answer, zero_answer, job_answer, edge_answer, body_answer, front_answer, list_answer, largest}
 use Rattle.joblist.specs.Accepted.{Accepted}
-use Rattle.joblist.specs.declared.ListAnswer.TheVariants.{Good}
+use Rattle.std.specs.Prelude.{Ok}
 use Rattle.joblist.specs.declared.Why.TheVariants.{Short, Slots, Cycle}
-use Rattle.joblist.proofs.Chain.{both_good, need_good, row_good, each_good}
+use Rattle.basics.proofs.Chain.{both_good, need_good, row_good, each_good}
 use Rattle.joblist.proofs.Rows.{counts_good, job_good, edge_good}
 use Rattle.joblist.proofs.Edges.{edge_of}
 
 module _ (lim : Limits) (s : List ℕ) where
   -- a list at the front of the bytes, where the counts give `whole` bytes
-  pub front_counts : (chi : ℕ → ℕ) (whole : ℕ) → front_answer lim chi s whole ≡ Good → length s ≡ whole
+  pub front_counts : (chi : ℕ → ℕ) (whole : ℕ) → front_answer lim chi s whole ≡ Ok tt → length s ≡ whole
   unfolding front_answer
   front_counts chi whole h = (counts_good lim _ _ _ _ _ _ (both_good _ _ h).0).given
 
-  pub front_accepted : (whole : ℕ) → list_bytes (jobs s) (edges s) ≤ whole → front_answer lim (high s) s whole ≡ Good → Accepted lim s
+  pub front_accepted : (whole : ℕ) → list_bytes (jobs s) (edges s) ≤ whole → front_answer lim (high s) s whole ≡ Ok tt → Accepted lim s
   unfolding front_answer body_answer
   front_accepted whole fits h =
       let a = both_good (counts_answer lim (length s) whole (jobs s) (edges s) (slots s) (head_zero s)) (body_answer lim (high s) s (jobs s) (edges s)) h in
@@ -49,14 +50,14 @@ module _ (lim : Limits) (s : List ℕ) where
       }
 
   -- the whole list
-  after_head : list_answer lim s ≡ Good → front_answer lim (high s) s (list_bytes (jobs s) (edges s)) ≡ Good
+  after_head : list_answer lim s ≡ Ok tt → front_answer lim (high s) s (list_bytes (jobs s) (edges s)) ≡ Ok tt
   unfolding list_answer
   after_head h = (row_good (leb head_bytes (length s)) Short _ h).1
 
-  pub accepted : list_answer lim s ≡ Good → Accepted lim s
+  pub accepted : list_answer lim s ≡ Ok tt → Accepted lim s
   accepted h = front_accepted _ (omega arith) (after_head h)
 
-  pub list_length : list_answer lim s ≡ Good → length s ≡ list_bytes (jobs s) (edges s)
+  pub list_length : list_answer lim s ≡ Ok tt → length s ≡ list_bytes (jobs s) (edges s)
   list_length h = front_counts (high s) _ (after_head h)
 
 -- no deadline is past the largest

@@ -14,11 +14,12 @@ use Rattle.basics.specs.Limits.{Limits}
 use Rattle.basics.proofs.Below.{any_same}
 use Rattle.joblist.specs.Fields.{head_bytes, list_bytes, jobs, edges, slots, head_zero, high, level, edge_from, edge_to}
 use Rattle.joblist.specs.Cycle.{walk, cyclic}
-use Rattle.joblist.specs.Answer.{◌⨾◌, need, counts_answer, zero_answer, job_answer, good_pair, edge_answer, rising, largest, body_answer, front_answer, list_answer}
-use Rattle.joblist.specs.declared.ListAnswer.{ListAnswer}
-use Rattle.joblist.specs.declared.ListAnswer.TheVariants.{Good, No}
+use Rattle.basics.specs.Chain.{◌⨾◌, need}
+use Rattle.joblist.specs.Answer.{counts_answer, zero_answer, job_answer, good_pair, edge_answer, rising, largest, body_answer, front_answer, list_answer}
+use Rattle.std.specs.Prelude.{Result, Ok, Err}
+use Rattle.joblist.specs.declared.Why.{Why}
 use Rattle.joblist.specs.declared.Why.TheVariants.{Pair, LowToHigh, Slots, Cycle}
-use Rattle.joblist.proofs.Chain.{each_same}
+use Rattle.basics.proofs.Chain.{each_same}
 use Rattle.joblist.proofs.Rows.{counts_good}
 use Rattle.joblist.proofs.Tested.{pair_so}
 
@@ -109,9 +110,9 @@ list_front lim t u h =
     rw (le-leb head_bytes (length t) h, u16_front t u 0 (omega arith), u16_front t u 2 (omega arith), u16_front t u 4 (omega arith), u16_front t u 6 (omega arith), length-append t u, eqb_more)
     (go (counts_answer lim (length t) (list_bytes (jobs t) (edges t)) (jobs t) (edges t) (slots t) (head_zero t)) refl)
   where
-    go : (a : ListAnswer) → counts_answer lim (length t) (list_bytes (jobs t) (edges t)) (jobs t) (edges t) (slots t) (head_zero t) ≡ a
+    go : (a : Result Unit Why) → counts_answer lim (length t) (list_bytes (jobs t) (edges t)) (jobs t) (edges t) (slots t) (head_zero t) ≡ a
         → a ⨾ body_answer lim (high (t ++ u)) (t ++ u) (jobs t) (edges t) ≡ a ⨾ body_answer lim (high t) t (jobs t) (edges t)
-    go (No w) p = refl
-    go Good p =
+    go (Err w) p = refl
+    go (Ok y) p =
         let g : length t ≡ list_bytes (jobs t) (edges t) = (counts_good lim (length t) (list_bytes (jobs t) (edges t)) (jobs t) (edges t) (slots t) (head_zero t) p).given in
         body_same (t ++ u) t (jobs t) (edges t) (λ i l. get_or-append t u 0 i (omega arith)) lim

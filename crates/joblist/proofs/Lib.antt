@@ -1,4 +1,3 @@
-pub mod Chain
 pub mod Tested
 pub mod Rows
 pub mod Steps

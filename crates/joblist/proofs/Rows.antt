@@ -1,4 +1,4 @@
--- What each row of the chain says where its answer is Good.
+-- What each row of the chain says where its answer is yes.
 -- Assumes nothing.
 use Prim.Native.Nat.{ℕ, ◌≤◌}
 use mathlib.Core.Path.{◌≡◌}
@@ -8,10 +8,11 @@ use borrow.Author.Tests.{leb-true, eqb-true}
 use Rattle.basics.specs.Limits.{Limits}
 use Rattle.joblist.specs.Fields.{high}
 use Rattle.joblist.specs.Cycle.{Named}
-use Rattle.joblist.specs.Answer.{each, counts_answer, fields_answer, job_answer, edge_answer}
+use Rattle.basics.specs.Chain.{each}
+use Rattle.joblist.specs.Answer.{counts_answer, fields_answer, job_answer, edge_answer}
 use Rattle.joblist.specs.Accepted.{Job, GoodEdge}
-use Rattle.joblist.specs.declared.ListAnswer.TheVariants.{Good}
-use Rattle.joblist.proofs.Chain.{need_good, row_good, each_good}
+use Rattle.std.specs.Prelude.{Ok}
+use Rattle.basics.proofs.Chain.{need_good, row_good, each_good}
 use Rattle.joblist.proofs.Tested.{within_so, times_so, budgets_so, pair_so}
 
 -- the counts
@@ -24,7 +25,7 @@ pub record Counts (lim : Limits) (len whole n m l z : ℕ) : Type 0 where
   pub given : len ≡ whole
   pub blank : z ≡ 0
 
-pub counts_good : (lim : Limits) (len whole n m l z : ℕ) → counts_answer lim len whole n m l z ≡ Good → Counts lim len whole n m l z
+pub counts_good : (lim : Limits) (len whole n m l z : ℕ) → counts_answer lim len whole n m l z ≡ Ok tt → Counts lim len whole n m l z
 unfolding counts_answer
 counts_good lim len whole n m l z h =
     let a = row_good _ _ _ h in
@@ -44,7 +45,7 @@ counts_good lim len whole n m l z h =
     }
 
 -- a job
-pub job_good : (lim : Limits) (s : List ℕ) (j : ℕ) → job_answer lim (high s) s j ≡ Good → Job lim s j
+pub job_good : (lim : Limits) (s : List ℕ) (j : ℕ) → job_answer lim (high s) s j ≡ Ok tt → Job lim s j
 unfolding fields_answer
 job_good lim s j h =
     let a = row_good _ _ _ h in
@@ -62,12 +63,12 @@ job_good lim s j h =
     }
 
 -- an edge
-pub edge_good : (s : List ℕ) (n e : ℕ) → edge_answer s n e ≡ Good → GoodEdge s n e
+pub edge_good : (s : List ℕ) (n e : ℕ) → edge_answer s n e ≡ Ok tt → GoodEdge s n e
 edge_good s n e h =
     let a = row_good _ _ _ h in
     let b = pair_so n _ _ _ a.0 in
     record { from = b.0; to = b.1; other = b.2; later = b.3; down = leb-true _ _ (need_good _ _ a.1) }
 
--- of a list whose edges are Good, each edge goes from a job to a job
-pub edges_named : (s : List ℕ) (n m : ℕ) → each m (edge_answer s n) ≡ Good → Named s n m
+-- of a list whose edges are good, each edge goes from a job to a job
+pub edges_named : (s : List ℕ) (n m : ℕ) → each m (edge_answer s n) ≡ Ok tt → Named s n m
 edges_named s n m h e l = let g = edge_good s n e (each_good _ m h e l) in (g.from, g.to)

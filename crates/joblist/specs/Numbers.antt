@@ -1,8 +1,6 @@
 -- The paper's number and place of each answer.
 -- Assumes nothing.
-use Rattle.std.specs.Prelude.{ℕ}
-use Rattle.joblist.specs.declared.ListAnswer.{ListAnswer}
-use Rattle.joblist.specs.declared.ListAnswer.TheVariants.{Good, No}
+use Rattle.std.specs.Prelude.{ℕ, Result, Ok, Err}
 use Rattle.joblist.specs.declared.Place.{Place}
 use Rattle.joblist.specs.declared.Place.TheVariants.{Nowhere, AtJob, AtEdge}
 use Rattle.joblist.specs.declared.Why.{Why}
@@ -39,11 +37,11 @@ place_of (LowToHigh e) = AtEdge e
 place_of Cycle = Nowhere
 
 -- the number of an answer: 0 for yes
-abbrev pub answer_number : ListAnswer → ℕ
-answer_number Good = 0
-answer_number (No w) = number_of w
+abbrev pub answer_number : Result Unit Why → ℕ
+answer_number (Ok y) = 0
+answer_number (Err w) = number_of w
 
 -- the place of an answer
-abbrev pub answer_place : ListAnswer → Place
-answer_place Good = Nowhere
-answer_place (No w) = place_of w
+abbrev pub answer_place : Result Unit Why → Place
+answer_place (Ok y) = Nowhere
+answer_place (Err w) = place_of w

@@ -2,11 +2,12 @@
 #![tactic(auto)]
 
 ghost use Rattle.std.specs.Prelude.{◌≡◌, Bool, true, false, ℕ, ◌+◌, ◌<◌, ◌≤◌, length, get_or};
+ghost use Rattle.basics.specs.Chain.{each};
 ghost use Rattle.basics.specs.Bytes.{u16_at};
 ghost use Rattle.basics.specs.Limits.{first_edition};
 ghost use Rattle.joblist.specs.Fields.{head_bytes, job_bytes, edge_bytes, job_at, edge_at, list_bytes, jobs, edges, slots, head_zero, arrival, deadline, ordinary, high, level, job_zero, edge_from, edge_to};
 ghost use Rattle.joblist.specs.Cycle.{reached, cyclic, Named};
-ghost use Rattle.joblist.specs.Answer.{each, within, counts_answer, good_times, good_budgets, fields_answer, zero_answer, job_answer, largest, rising, good_pair, edge_answer, body_answer, front_answer, list_answer};
+ghost use Rattle.joblist.specs.Answer.{within, counts_answer, good_times, good_budgets, fields_answer, zero_answer, job_answer, largest, rising, good_pair, edge_answer, body_answer, front_answer, list_answer};
 ghost use Rattle.joblist.specs.Numbers.{number_of, place_of, answer_number, answer_place};
 
 // The limits of the first edition.
@@ -49,12 +50,6 @@ pub enum Why {
     Pair(usize),
     LowToHigh(usize),
     Cycle,
-}
-
-#[derive(Clone, Copy)]
-pub enum ListAnswer {
-    Good,
-    No(Why),
 }
 
 // Where a list is refused.
@@ -106,22 +101,22 @@ pub fn place_of(w: Why) -> Place
 }
 
 // The number of an answer: 0 for yes.
-pub fn answer_number(a: ListAnswer) -> usize
+pub fn answer_number(a: Result<(), Why>) -> usize
     ensures { result ≡ answer_number a }
 {
     match a {
-        ListAnswer::Good => 0,
-        ListAnswer::No(w) => number_of(w),
+        Ok(()) => 0,
+        Err(w) => number_of(w),
     }
 }
 
 // The place of an answer.
-pub fn answer_place(a: ListAnswer) -> Place
+pub fn answer_place(a: Result<(), Why>) -> Place
     ensures { result ≡ answer_place a }
 {
     match a {
-        ListAnswer::Good => Place::Nowhere,
-        ListAnswer::No(w) => place_of(w),
+        Ok(()) => Place::Nowhere,
+        Err(w) => place_of(w),
     }
 }
 
@@ -253,39 +248,39 @@ fn in_range(x: usize, most: usize) -> bool
 
 // The counts, and the zero beside them.
 #[tactic(auto, unfolding(crate::specs::Answer::counts_answer))]
-fn check_counts(len: usize, whole: usize, n: usize, m: usize, l: usize, z: usize) -> ListAnswer
+fn check_counts(len: usize, whole: usize, n: usize, m: usize, l: usize, z: usize) -> Result<(), Why>
     ensures { result ≡ counts_answer first_edition len whole n m l z }
 {
     if !in_range(n, MOST_JOBS) {
-        return ListAnswer::No(Why::Jobs);
+        return Err(Why::Jobs);
     }
     if MOST_EDGES < m {
-        return ListAnswer::No(Why::Edges);
+        return Err(Why::Edges);
     }
     if !in_range(l, MOST_SLOTS) {
-        return ListAnswer::No(Why::Slots);
+        return Err(Why::Slots);
     }
     if len != whole {
-        return ListAnswer::No(Why::Length);
+        return Err(Why::Length);
     }
     if z != 0 {
-        return ListAnswer::No(Why::Zero);
+        return Err(Why::Zero);
     }
-    ListAnswer::Good
+    Ok(())
 }
 
 // The zero bytes of the jobs.
-#[tactic(auto, using(crate::proofs::Chain::turn_good, crate::proofs::Chain::turn_no, crate::proofs::Chain::turn_end), unfolding(crate::specs::Answer::zero_answer))]
-fn check_zeros(s: &[u8], n: usize) -> ListAnswer
+#[tactic(auto, using(basics::proofs::Chain::turn_good, basics::proofs::Chain::turn_no, basics::proofs::Chain::turn_end), unfolding(crate::specs::Answer::zero_answer))]
+fn check_zeros(s: &[u8], n: usize) -> Result<(), Why>
     requires { job_at n ≤ length s.now }
     ensures { result ≡ each n (zero_answer s.now) }
 {
     for j in 0..n {
         if s[HEAD_BYTES + JOB_BYTES * j + 9] != 0 {
-            return ListAnswer::No(Why::Zero);
+            return Err(Why::Zero);
         }
     }
-    ListAnswer::Good
+    Ok(())
 }
 
 // Whether a job may arrive at a and end by d.
@@ -327,22 +322,22 @@ fn good_budgets(v: usize, lo: usize, hi: usize) -> bool
 
 // The fields of job j.
 #[tactic(auto, unfolding(crate::specs::Answer::fields_answer))]
-fn check_fields(j: usize, v: usize, a: usize, d: usize, lo: usize, hi: usize) -> ListAnswer
+fn check_fields(j: usize, v: usize, a: usize, d: usize, lo: usize, hi: usize) -> Result<(), Why>
     ensures { result ≡ fields_answer first_edition j v a d lo hi }
 {
     if 1 < v {
-        return ListAnswer::No(Why::Level(j));
+        return Err(Why::Level(j));
     }
     if !good_times(a, d) {
-        return ListAnswer::No(Why::Times(j));
+        return Err(Why::Times(j));
     }
     if !good_budgets(v, lo, hi) {
-        return ListAnswer::No(Why::Budgets(j));
+        return Err(Why::Budgets(j));
     }
-    ListAnswer::Good
+    Ok(())
 }
 
-fn check_job(s: &[u8], j: usize) -> ListAnswer
+fn check_job(s: &[u8], j: usize) -> Result<(), Why>
     requires { job_at j + job_bytes ≤ length s.now }
     ensures { result ≡ job_answer first_edition (high s.now) s.now j }
 {
@@ -357,18 +352,15 @@ fn check_job(s: &[u8], j: usize) -> ListAnswer
 }
 
 // The jobs.
-#[tactic(auto, using(crate::proofs::Chain::turn_good, crate::proofs::Chain::turn_no, crate::proofs::Chain::turn_end))]
-fn check_jobs(s: &[u8], n: usize) -> ListAnswer
+#[tactic(auto, using(basics::proofs::Chain::turn_good, basics::proofs::Chain::turn_no, basics::proofs::Chain::turn_end))]
+fn check_jobs(s: &[u8], n: usize) -> Result<(), Why>
     requires { job_at n ≤ length s.now }
     ensures { result ≡ each n (job_answer first_edition (high s.now) s.now) }
 {
     for j in 0..n {
-        let v = check_job(s, j);
-        let ListAnswer::Good = v else {
-            return v;
-        };
+        check_job(s, j)?;
     }
-    ListAnswer::Good
+    Ok(())
 }
 
 // The largest deadline.
@@ -406,34 +398,31 @@ fn good_pair(n: usize, p: usize, q: usize, in_order: bool) -> bool
 
 // One edge.
 #[tactic(auto, unfolding(crate::specs::Answer::edge_answer, crate::specs::Answer::good_pair))]
-fn check_edge(s: &[u8], n: usize, e: usize) -> ListAnswer
+fn check_edge(s: &[u8], n: usize, e: usize) -> Result<(), Why>
     requires { edge_at n e + edge_bytes ≤ length s.now }
     ensures { result ≡ edge_answer s.now n e }
 {
     let p = edge_from(s, n, e);
     let q = edge_to(s, n, e);
     if !good_pair(n, p, q, rises(s, n, e)) {
-        return ListAnswer::No(Why::Pair(e));
+        return Err(Why::Pair(e));
     }
     if level_of(s, p) < level_of(s, q) {
-        return ListAnswer::No(Why::LowToHigh(e));
+        return Err(Why::LowToHigh(e));
     }
-    ListAnswer::Good
+    Ok(())
 }
 
 // The edges.
-#[tactic(auto, using(crate::proofs::Chain::turn_good, crate::proofs::Chain::turn_no, crate::proofs::Chain::turn_end))]
-fn check_edges(s: &[u8], n: usize, m: usize) -> ListAnswer
+#[tactic(auto, using(basics::proofs::Chain::turn_good, basics::proofs::Chain::turn_no, basics::proofs::Chain::turn_end))]
+fn check_edges(s: &[u8], n: usize, m: usize) -> Result<(), Why>
     requires { list_bytes n m ≤ length s.now }
     ensures { result ≡ each m (edge_answer s.now n) }
 {
     for e in 0..m {
-        let v = check_edge(s, n, e);
-        let ListAnswer::Good = v else {
-            return v;
-        };
+        check_edge(s, n, e)?;
     }
-    ListAnswer::Good
+    Ok(())
 }
 
 // The jobs to which an edge comes from a job that is alive: one pass over the edges.
@@ -472,53 +461,41 @@ fn cyclic_of(s: &[u8], n: usize, m: usize) -> bool
 
 // What follows the head.
 #[tactic(auto, unfolding(crate::specs::Answer::body_answer))]
-fn check_body(s: &[u8], n: usize, m: usize) -> ListAnswer
+fn check_body(s: &[u8], n: usize, m: usize) -> Result<(), Why>
     requires { (n ≤ first_edition.jobs) × (list_bytes n m ≤ length s.now) }
     ensures { result ≡ body_answer first_edition (high s.now) s.now n m }
 {
-    let z = check_zeros(s, n);
-    let ListAnswer::Good = z else {
-        return z;
-    };
-    let v = check_jobs(s, n);
-    let ListAnswer::Good = v else {
-        return v;
-    };
+    check_zeros(s, n)?;
+    check_jobs(s, n)?;
     if slots_of(s) != largest_of(s, n) {
-        return ListAnswer::No(Why::Slots);
+        return Err(Why::Slots);
     }
-    let e = check_edges(s, n, m);
-    let ListAnswer::Good = e else {
-        return e;
-    };
+    check_edges(s, n, m)?;
     if cyclic_of(s, n, m) {
-        return ListAnswer::No(Why::Cycle);
+        return Err(Why::Cycle);
     }
-    ListAnswer::Good
+    Ok(())
 }
 
 // Inner: a list at the front of the bytes, where the counts give `whole` bytes. A plan is checked by it too.
 #[tactic(auto, using(crate::proofs::Rows::counts_good), unfolding(crate::specs::Answer::front_answer))]
-pub fn check_front(s: &[u8], whole: usize) -> ListAnswer
+pub fn check_front(s: &[u8], whole: usize) -> Result<(), Why>
     requires { (head_bytes ≤ length s.now) × (list_bytes (jobs s.now) (edges s.now) ≤ whole) }
     ensures { result ≡ front_answer first_edition (high s.now) s.now whole }
 {
     let n = jobs_of(s);
     let m = edges_of(s);
-    let c = check_counts(s.len(), whole, n, m, slots_of(s), u16_at(s, 6));
-    let ListAnswer::Good = c else {
-        return c;
-    };
+    check_counts(s.len(), whole, n, m, slots_of(s), u16_at(s, 6))?;
     check_body(s, n, m)
 }
 
 // The whole list.
 #[tactic(auto, unfolding(crate::specs::Answer::list_answer))]
-pub fn check_list(list: &[u8]) -> ListAnswer
+pub fn check_list(list: &[u8]) -> Result<(), Why>
     ensures { result ≡ list_answer first_edition list.now }
 {
     if list.len() < HEAD_BYTES {
-        return ListAnswer::No(Why::Short);
+        return Err(Why::Short);
     }
     check_front(
         list,

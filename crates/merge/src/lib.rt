@@ -1,12 +1,11 @@
 // The builder: the merge method, slot for slot, and the plan of the pair that it makes.
 #![tactic(auto)]
 
-ghost use Rattle.std.specs.Prelude.{◌≡◌, ℕ, ◌+◌, ◌≤◌, length};
+ghost use Rattle.std.specs.Prelude.{Ok, ◌≡◌, ℕ, ◌+◌, ◌≤◌, length};
 ghost use Rattle.basics.specs.Limits.{first_edition};
 ghost use Rattle.joblist.specs.Fields.{jobs, edges, slots};
 ghost use Rattle.joblist.specs.Answer.{list_answer};
 ghost use Rattle.joblist.specs.Accepted.{Accepted};
-ghost use Rattle.joblist.specs.declared.ListAnswer.TheVariants.{Good};
 ghost use Rattle.planfile.specs.Plan.{plan_bytes};
 ghost use Rattle.late.specs.Table.{all_idle};
 ghost use Rattle.late.specs.Late.{late_of, tlo, thi};
@@ -15,7 +14,7 @@ ghost use Rattle.merge.specs.Numbers.{why_number, why_place, built_number, built
 ghost use Rattle.merge.specs.declared.Pair.TheVariants.{Made};
 
 use hitable::table_hi;
-use joblist::{ListAnswer, MOST_SLOTS, Place, Table, Why};
+use joblist::{MOST_SLOTS, Place, Table, Why};
 use late::Late;
 use lotable::Clash;
 use planfile::TRAILER_BYTES;
@@ -189,7 +188,7 @@ fn build_in(
     hi: &mut [u8],
     out: &mut [u8],
 ) -> Built
-    requires { (list_answer first_edition list.now ≡ Good) × (low.old ≡ all_idle list.now) × (high.old ≡ all_idle list.now) × (left.old ≡ all_idle list.now)
+    requires { (list_answer first_edition list.now ≡ Ok tt) × (low.old ≡ all_idle list.now) × (high.old ≡ all_idle list.now) × (left.old ≡ all_idle list.now)
         × (lo.old ≡ all_idle list.now) × (hi.old ≡ all_idle list.now) × (plan_bytes (jobs list.now) (edges list.now) (slots list.now) ≤ length out.old) }
     ensures { (result ≡ build_of first_edition list.now (length out.old))
         × (out.new ≡ out_after first_edition list.now out.old) }
@@ -211,7 +210,7 @@ pub fn build(list: &[u8], out: &mut [u8]) -> Built
         × (out.new ≡ out_after first_edition list.now out.old) }
 {
     let a = joblist::check_list(list);
-    if let ListAnswer::No(w) = a {
+    if let Err(w) = a {
         return Built::No(BuildWhy::OfList(w));
     }
     let l = joblist::slots_of(list);

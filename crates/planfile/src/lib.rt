@@ -10,7 +10,7 @@ ghost use Rattle.planfile.specs.Plan.{trailer_bytes, trailer, plan_of, plan_byte
 ghost use Rattle.planfile.specs.Answer.{shape_of, parts_answer, read_of, write_of, out_after};
 ghost use Rattle.planfile.specs.Numbers.{read_why_number, read_why_place, read_number, read_place, write_why_number, write_why_place, wrote_number, wrote_place};
 
-use joblist::{EDGE_BYTES, HEAD_BYTES, JOB_BYTES, ListAnswer, Place};
+use joblist::{EDGE_BYTES, HEAD_BYTES, JOB_BYTES, Place};
 use verdict::{Objection, Spot, Verdict};
 
 // The mark that ends a plan of the first edition, 54 54 50 31, as the 32 bits that it is read as.
@@ -301,7 +301,7 @@ fn read_parts(plan: &[u8]) -> ReadAnswer
 {
     let whole = size_of(plan);
     let f = joblist::check_front(plan, whole);
-    if let ListAnswer::No(w) = f {
+    if let Err(w) = f {
         return ReadAnswer::No(ReadWhy::Checked(Objection::OfList(w)));
     }
     let list = list_of(plan);

@@ -3,7 +3,7 @@
 #![tactic(auto)]
 
 use drawing::put_counts;
-use joblist::{EDGE_BYTES, HEAD_BYTES, JOB_BYTES, ListAnswer, MOST_EDGES, MOST_JOBS, MOST_SLOTS};
+use joblist::{EDGE_BYTES, HEAD_BYTES, JOB_BYTES, MOST_EDGES, MOST_JOBS, MOST_SLOTS};
 use jobtext::Names;
 use merge::Built;
 use page::{Page, less};
@@ -37,7 +37,7 @@ fn wrote(plan: &[u8], out: &mut [u8]) -> Wrote {
     planfile::write(list_of(plan), low_of(plan), high_of(plan), out)
 }
 
-fn listed(list: &[u8]) -> ListAnswer {
+fn listed(list: &[u8]) -> Result<(), joblist::Why> {
     joblist::check_list(list)
 }
 
@@ -103,16 +103,16 @@ pub fn write(page: Page, plan: &[u8], names: Names) -> Plan {
 
 pub fn is_list(list: &[u8]) -> bool {
     match listed(list) {
-        ListAnswer::Good => true,
-        ListAnswer::No(_) => false,
+        Ok(()) => true,
+        Err(_) => false,
     }
 }
 
 // Why a list is none; nothing where it is one.
 pub fn put_list_fault(page: Page, list: &[u8], names: Names) -> Page {
     match listed(list) {
-        ListAnswer::Good => page,
-        ListAnswer::No(w) => {
+        Ok(()) => page,
+        Err(w) => {
             let no = words::at_spot(joblist::number_of(w), Spot::InList(joblist::place_of(w)));
             words::tell(page, list, names, no)
         }

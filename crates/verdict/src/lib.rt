@@ -1,16 +1,15 @@
 // The check of a list and its two tables.
 #![tactic(auto)]
 
-ghost use Rattle.std.specs.Prelude.{◌≡◌, not, ◌||◌, eqb, ltb};
+ghost use Rattle.std.specs.Prelude.{◌≡◌, Ok, not, ◌||◌, eqb, ltb};
 ghost use Rattle.basics.specs.Marks.{idle};
 ghost use Rattle.basics.specs.Limits.{first_edition};
 ghost use Rattle.joblist.specs.Answer.{list_answer};
-ghost use Rattle.joblist.specs.declared.ListAnswer.TheVariants.{Good};
 ghost use Rattle.verdict.specs.Answer.{odd_entry, tables_answer, check_of};
 ghost use Rattle.verdict.specs.Inner.{first_of};
 ghost use Rattle.verdict.specs.Numbers.{fault_number, number_of, place_of, answer_number};
 
-use joblist::{ListAnswer, MOST_JOBS, Place, Table, Why};
+use joblist::{MOST_JOBS, Place, Table, Why};
 
 pub mod count;
 mod faults;
@@ -145,7 +144,7 @@ fn first_odd(table: &[u8], n: usize) -> First
 
 // The two tables of a good list.
 fn check_tables(list: &[u8], lo: &[u8], hi: &[u8]) -> Verdict
-    requires { list_answer first_edition list.now ≡ Good }
+    requires { list_answer first_edition list.now ≡ Ok tt }
     ensures { result ≡ tables_answer list.now lo.now hi.now }
 {
     let n = joblist::jobs_of(list);
@@ -175,7 +174,7 @@ pub fn check(list: &[u8], lo: &[u8], hi: &[u8]) -> Verdict
     ensures { result ≡ check_of first_edition list.now lo.now hi.now }
 {
     match joblist::check_list(list) {
-        ListAnswer::Good => check_tables(list, lo, hi),
-        ListAnswer::No(w) => Verdict::No(Objection::OfList(w)),
+        Ok(()) => check_tables(list, lo, hi),
+        Err(w) => Verdict::No(Objection::OfList(w)),
     }
 }

@@ -6,4 +6,4 @@ use Rattle.joblist.proofs.check_body.Goals as goal
 
 pub cyclic_of-requires : goal.cyclic_of-requires
 cyclic_of-requires c =
-    (c.requires.0, c.requires.1, edges_named c.args.s.now _ _ (sym c.check_edges-e.ensures ∙ c.in-Good-e.is))
+    (c.requires.0, c.requires.1, edges_named c.args.s.now _ _ (sym c.check_edges.ensures ∙ c.in_ok-check_edges.was))

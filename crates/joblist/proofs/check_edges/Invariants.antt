@@ -2,9 +2,10 @@
 -- Assumes nothing.
 use Rattle.std.proofs.Common.{◌≡◌}
 use Rattle.basics.specs.Turns.{turns}
-use Rattle.joblist.specs.declared.ListAnswer.TheVariants.{Good}
-use Rattle.joblist.specs.Answer.{◌⨾◌, each, edge_answer}
+use Rattle.std.specs.Prelude.{Ok}
+use Rattle.basics.specs.Chain.{◌⨾◌, each}
+use Rattle.joblist.specs.Answer.{edge_answer}
 use Rattle.joblist.proofs.check_edges.Given as goal
 
 abbrev pub invariant-loop-e : goal.invariant-loop-e
-invariant-loop-e l = each l.m (edge_answer l.s l.n) ≡ turns ◌⨾◌ Good (edge_answer l.s l.n) l.m l.e
+invariant-loop-e l = each l.m (edge_answer l.s l.n) ≡ turns ◌⨾◌ (Ok tt) (edge_answer l.s l.n) l.m l.e
