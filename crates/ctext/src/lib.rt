@@ -20,20 +20,17 @@ fn put_comment(page: Page, plan: &[u8]) -> Page {
     put_pair(listed, low_of(plan), high_of(plan), Names::none()).line(b"*/")
 }
 
-// Byte i, in a new line where the last one is full.
-fn put_byte(page: Page, i: usize, x: u8) -> Page {
-    if i % IN_LINE == 0 {
-        return page.end().blank(4).put(b"0x").hex(&[x]).put(b",");
-    }
-    page.blank(1).put(b"0x").hex(&[x]).put(b",")
+fn put_byte(page: Page, x: &u8) -> Page {
+    page.blank(1).put(b"0x").hex(&[*x]).put(b",")
+}
+
+// A line of bytes, under what stands there.
+fn put_line(page: Page, bytes: &[u8]) -> Page {
+    bytes.iter().fold(page.end().blank(3), put_byte)
 }
 
 fn put_bytes(page: Page, plan: &[u8]) -> Page {
-    let mut to = page;
-    for i in 0..plan.len() {
-        to = put_byte(to, i, plan[i]);
-    }
-    to.end().line(b"};")
+    plan.chunks(IN_LINE).fold(page, put_line).end().line(b"};")
 }
 
 fn put_length(page: Page, plan: &[u8], name: &[u8]) -> Page {

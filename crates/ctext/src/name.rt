@@ -1,68 +1,83 @@
 // Names of C.
-use jobtext::line::word;
-use text::same;
 
 // The words that C has taken, to C23, and those that the source itself uses.
-const TAKEN: [u8; 431] =
-    *b"auto break case char const continue default do double else enum extern float for goto if inline int \
-    long register restrict return short signed sizeof static struct switch typedef union unsigned void \
-    volatile while _Alignas _Alignof _Atomic _Bool _Complex _Generic _Imaginary _Noreturn _Static_assert \
-    _Thread_local alignas alignof bool constexpr false nullptr static_assert thread_local true typeof \
-    typeof_unqual main size_t uint8_t";
-
-// How many they are.
-const WORDS: usize = 58;
-
-fn is_taken(s: &[u8], taken: &[u8]) -> bool {
-    for k in 0..WORDS {
-        if same(word(taken, k), s) {
-            return true;
-        }
-    }
-    false
-}
-
-fn is_between(x: u8, a: u8, e: u8) -> bool {
-    if x < a {
-        return false;
-    }
-    x <= e
-}
+static TAKEN: [&[u8]; 58] = [
+    b"auto",
+    b"break",
+    b"case",
+    b"char",
+    b"const",
+    b"continue",
+    b"default",
+    b"do",
+    b"double",
+    b"else",
+    b"enum",
+    b"extern",
+    b"float",
+    b"for",
+    b"goto",
+    b"if",
+    b"inline",
+    b"int",
+    b"long",
+    b"register",
+    b"restrict",
+    b"return",
+    b"short",
+    b"signed",
+    b"sizeof",
+    b"static",
+    b"struct",
+    b"switch",
+    b"typedef",
+    b"union",
+    b"unsigned",
+    b"void",
+    b"volatile",
+    b"while",
+    b"_Alignas",
+    b"_Alignof",
+    b"_Atomic",
+    b"_Bool",
+    b"_Complex",
+    b"_Generic",
+    b"_Imaginary",
+    b"_Noreturn",
+    b"_Static_assert",
+    b"_Thread_local",
+    b"alignas",
+    b"alignof",
+    b"bool",
+    b"constexpr",
+    b"false",
+    b"nullptr",
+    b"static_assert",
+    b"thread_local",
+    b"true",
+    b"typeof",
+    b"typeof_unqual",
+    b"main",
+    b"size_t",
+    b"uint8_t",
+];
 
 fn is_letter(x: u8) -> bool {
-    if is_between(x, b'a', b'z') {
-        return true;
-    }
-    if is_between(x, b'A', b'Z') {
-        return true;
-    }
-    x == b'_'
+    x.is_ascii_alphabetic() || x == b'_'
 }
 
-// Whether a byte may stand at place i of a name.
-fn is_part(x: u8, i: usize) -> bool {
-    if is_letter(x) {
-        return true;
-    }
-    if i == 0 {
-        return false;
-    }
-    is_between(x, b'0', b'9')
+fn is_part(x: u8) -> bool {
+    is_letter(x) || x.is_ascii_digit()
 }
 
 fn is_spelled(s: &[u8]) -> bool {
-    for i in 0..s.len() {
-        if !is_part(s[i], i) {
-            return false;
-        }
+    match s {
+        [first, rest @ ..] => is_letter(*first) && rest.iter().all(|x| is_part(*x)),
+        [] => false,
     }
-    s.len() != 0
 }
 
 // Whether bytes can name something in C.
 pub fn is_name(s: &[u8]) -> bool {
-    if is_taken(s, &TAKEN) {
-        return false;
-    }
-    is_spelled(s)
+    is_spelled(s) && !TAKEN.contains(&s)
 }

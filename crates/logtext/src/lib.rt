@@ -23,13 +23,13 @@ pub fn plan_at(store: &[u8], s: Span) -> &[u8] {
 // Why no plan was found.
 pub fn put_not_found(page: Page, w: FindWhy) -> Page {
     let no = words::at_spot(logwalk::find_why_number(w), Spot::InList(Place::Nowhere));
-    words::tell(page, b"", Names::none(), no)
+    words::tell(page, b"", &Names::none(), no)
 }
 
 // Why a plan was not appended.
 pub fn put_refused(page: Page, plan: &[u8], w: AppendWhy) -> Page {
     let no = words::at_spot(planlog::append_why_number(w), planlog::append_why_place(w));
-    words::tell(page, list_of(plan), Names::none(), no)
+    words::tell(page, list_of(plan), &Names::none(), no)
 }
 
 // A store that was made.

@@ -74,14 +74,14 @@ pub fn build(page: Page, list: &[u8], names: Names) -> Plan {
         Built::No(w) => Plan {
             bytes: bytes,
             size: 0,
-            page: words::tell(page, list, names, words::of_build(w)),
+            page: words::tell(page, list, &names, words::No::from(w)),
         },
     }
 }
 
 fn unwritten(page: Page, plan: &[u8], names: Names, w: WriteWhy) -> Page {
     let no = words::at_spot(planfile::write_why_number(w), planfile::write_why_place(w));
-    words::tell(page, list_of(plan), names, no)
+    words::tell(page, list_of(plan), &names, no)
 }
 
 // Writes the plan of the parts that were joined.
@@ -114,7 +114,7 @@ pub fn put_list_fault(page: Page, list: &[u8], names: Names) -> Page {
         Ok(()) => page,
         Err(w) => {
             let no = words::at_spot(joblist::number_of(w), Spot::InList(joblist::place_of(w)));
-            words::tell(page, list, names, no)
+            words::tell(page, list, &names, no)
         }
     }
 }
@@ -146,7 +146,7 @@ pub fn put_fault(page: Page, plan: &[u8], names: Names) -> Page {
         ReadAnswer::Plan(_) => page,
         ReadAnswer::No(w) => {
             let no = words::at_spot(planfile::read_why_number(w), planfile::read_why_place(w));
-            words::tell(page, list_of(plan), names, no)
+            words::tell(page, list_of(plan), &names, no)
         }
     }
 }

@@ -5,4 +5,4 @@ mod number;
 mod told;
 
 pub use number::{advice, meaning, table};
-pub use told::{No, at_spot, label, of_build, tell};
+pub use told::{No, at_spot, label, tell};
