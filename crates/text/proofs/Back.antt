@@ -12,31 +12,30 @@ use lib.Dec.{ltb}
 use lib.ListN.{length, get_or, take, length-append, get_or-append}
 use lib.Seq.{take-suc, take-length, get_or_at}
 use Rattle.io.specs.Digits.{hex_digit_ascii, last_digits}
-use Rattle.text.specs.declared.read.Decimal.{Decimal}
-use Rattle.text.specs.declared.read.Decimal.TheVariants.{Is}
+use Rattle.std.proofs.Common.{Option, Some}
 use Rattle.text.specs.Number.{step, goes_on, number_in}
 use Rattle.text.specs.Hex.{hex_of, worth, bytes_of}
 use Rattle.text.proofs.Digits.{hex_length}
 
 -- the last digit
-goes_on_last : (most : ℕ) (r : Decimal) (s : List ℕ) (x : ℕ) → goes_on most r (s ++ (x ∷ [])) ≡ step most (goes_on most r s) x
+goes_on_last : (most : ℕ) (r : Option ℕ) (s : List ℕ) (x : ℕ) → goes_on most r (s ++ (x ∷ [])) ≡ step most (goes_on most r s) x
 unfolding goes_on
 goes_on_last most r [] x = refl
 goes_on_last most r (y ∷ s) x = goes_on_last most (step most r y) s x
 
 -- with one digit or more, all of them in turn
-not_empty : (most : ℕ) (s : List ℕ) (x : ℕ) → number_in most (s ++ (x ∷ [])) ≡ goes_on most (Is 0) (s ++ (x ∷ []))
+not_empty : (most : ℕ) (s : List ℕ) (x : ℕ) → number_in most (s ++ (x ∷ [])) ≡ goes_on most (Some 0) (s ++ (x ∷ []))
 unfolding number_in
 not_empty most [] x = refl
 not_empty most (y ∷ s) x = refl
 
-digits_say : (most k n : ℕ) → n < 10 ^ k → n ≤ most → goes_on most (Is 0) (last_digits 10 k n) ≡ Is n
+digits_say : (most k n : ℕ) → n < 10 ^ k → n ≤ most → goes_on most (Some 0) (last_digits 10 k n) ≡ Some n
 unfolding goes_on step
 digits_say most zero n h l = let z : n ≡ 0 = omega (arith, pow-zero 10) in rw z
 digits_say most (suc k) n h l =
     let v : 10 * (n / 10) + ((48 + n % 10) - 48) ≡ n = omega arith in
     rw (
-      goes_on_last most (Is 0) (last_digits 10 k (n / 10)) (hex_digit_ascii (n % 10)),
+      goes_on_last most (Some 0) (last_digits 10 k (n / 10)) (hex_digit_ascii (n % 10)),
       digits_say most k (n / 10) (omega (arith, pow-suc 10 k)) (omega arith),
       lt-ltb (n % 10) 10 (omega arith),
       le-leb 48 (48 + n % 10) (omega arith),
@@ -46,7 +45,7 @@ digits_say most (suc k) n h l =
     )
 
 -- a number's decimal digits are read as the number
-pub number_back : (most k n : ℕ) → n < 10 ^ suc k → n ≤ most → number_in most (last_digits 10 (suc k) n) ≡ Is n
+pub number_back : (most k n : ℕ) → n < 10 ^ suc k → n ≤ most → number_in most (last_digits 10 (suc k) n) ≡ Some n
 number_back most k n h l = not_empty most (last_digits 10 k (n / 10)) (hex_digit_ascii (n % 10)) ∙ digits_say most (suc k) n h l
 
 -- both digits of each byte

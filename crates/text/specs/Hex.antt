@@ -1,11 +1,9 @@
 -- Bytes as hex text, two digits a byte, in lower case.
 -- Assumes nothing.
-use Rattle.std.specs.Prelude.{ℕ, zero, suc, ◌+◌, ◌*◌, ◌-◌, ◌/◌, ◌%◌, Bool, cond, ◌&&◌, List, [], ◌∷◌, ◌++◌, length, get_or, leb, ltb, eqb}
+use Rattle.std.specs.Prelude.{ℕ, zero, suc, ◌+◌, ◌*◌, ◌-◌, ◌/◌, ◌%◌, Bool, cond, ◌&&◌, List, [], ◌∷◌, ◌++◌, length, get_or, leb, ltb, eqb, Option, Some, None}
 use Rattle.basics.specs.Below.{all_below}
 use Rattle.basics.specs.Put.{put}
 use Rattle.io.specs.Digits.{hex_digit_ascii}
-use Rattle.text.specs.declared.hex.Unhexed.{Unhexed}
-use Rattle.text.specs.declared.hex.Unhexed.TheVariants.{To, Not}
 
 -- the digits of the first k bytes
 unfoldable pub hex_of : List ℕ → ℕ → List ℕ
@@ -30,8 +28,8 @@ unfoldable pub unhexes : List ℕ → ℕ → List ℕ → Bool
 unhexes d at s = leb (at + length s / 2) (length d) && is_hex s
 
 -- the place after the bytes; or nothing
-unfoldable pub unhexed : List ℕ → ℕ → List ℕ → Unhexed
-unhexed d at s = cond (unhexes d at s) (To (at + length s / 2)) Not
+unfoldable pub unhexed : List ℕ → ℕ → List ℕ → Option ℕ
+unhexed d at s = cond (unhexes d at s) (Some (at + length s / 2)) None
 
 -- the buffer with the bytes at the place; or as it was
 unfoldable pub after_unhex : List ℕ → ℕ → List ℕ → List ℕ

@@ -7,18 +7,11 @@ ghost use Rattle.text.specs.Hex.{hex_of, worth, is_hex, bytes_of, unhexed, after
 
 use crate::place::fits;
 
-// What becomes of hex text: the next place, or nothing where it is no hex text or has no room.
-#[derive(Drop)]
-pub enum Unhexed {
-    To(usize),
-    Not,
-}
-
 fn glyph(d: u8) -> u8
     requires { d < 16 }
     ensures { result ≡ glyph_of d }
 {
-    if d < 10 { 48 + d } else { 87 + d }
+    if d < 10 { b'0' + d } else { b'a' - 10 + d }
 }
 
 // The digits of s, where they fit.
@@ -26,9 +19,9 @@ fn spell(out: &mut [u8], at: usize, s: &[u8])
     requires { at + 2 * length s.now ≤ length out.old }
     ensures { out.new ≡ placed out.old at (hex_of s.now (length s.now)) }
 {
-    for i in 0..s.len() {
-        out[at + 2 * i] = glyph(s[i] / 16);
-        out[at + 2 * i + 1] = glyph(s[i] % 16);
+    for (i, x) in s.iter().enumerate() {
+        out[at + 2 * i] = glyph(x / 16);
+        out[at + 2 * i + 1] = glyph(x % 16);
     }
 }
 
@@ -50,34 +43,18 @@ pub fn put_hex(out: &mut [u8], at: usize, s: &[u8]) -> usize
 fn worth_of(x: u8) -> u8
     ensures { result ≡ worth x }
 {
-    if x < 48 {
-        return 16;
+    match x {
+        b'0'..=b'9' => x - b'0',
+        b'a'..=b'f' => x - b'a' + 10,
+        _ => 16,
     }
-    if x < 58 {
-        return x - 48;
-    }
-    if x < 97 {
-        return 16;
-    }
-    if x < 103 {
-        return x - 87;
-    }
-    16
 }
 
 // Whether bytes are pairs of digits.
 fn is_hex(s: &[u8]) -> bool
     ensures { result ≡ is_hex s.now }
 {
-    if s.len() % 2 != 0 {
-        return false;
-    }
-    for i in 0..s.len() {
-        if 16 <= worth_of(s[i]) {
-            return false;
-        }
-    }
-    true
+    s.len() % 2 == 0 && s.iter().all(|x| worth_of(*x) < 16)
 }
 
 // The bytes that k pairs of digits say, where they fit.
@@ -90,17 +67,15 @@ fn unspell(out: &mut [u8], at: usize, s: &[u8], k: usize)
     }
 }
 
-// Puts the bytes that hex text says at a place.
+// Puts the bytes that hex text says at a place, and hands back the next place; none where it is no hex text or does not fit.
 #[tactic(auto, unfolding(crate::specs::Hex::unhexes, crate::specs::Hex::unhexed, crate::specs::Hex::after_unhex))]
-pub fn put_unhex(out: &mut [u8], at: usize, s: &[u8]) -> Unhexed
+pub fn put_unhex(out: &mut [u8], at: usize, s: &[u8]) -> Option<usize>
     ensures { (result ≡ unhexed out.old at s.now) × (out.new ≡ after_unhex out.old at s.now) }
 {
     let k = s.len() / 2;
-    if fits(out.len(), at, k) {
-        if is_hex(s) {
-            unspell(out, at, s, k);
-            return Unhexed::To(at + k);
-        }
+    if fits(out.len(), at, k) && is_hex(s) {
+        unspell(out, at, s, k);
+        return Some(at + k);
     }
-    Unhexed::Not
+    None
 }

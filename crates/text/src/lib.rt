@@ -6,7 +6,7 @@ mod place;
 mod read;
 mod slice;
 
-pub use hex::{Unhexed, put_hex, put_unhex};
+pub use hex::{put_hex, put_unhex};
 pub use place::{put, put_number};
-pub use read::{Decimal, find, number};
+pub use read::{find, number};
 pub use slice::{byte_at, part, same};

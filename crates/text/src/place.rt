@@ -6,13 +6,7 @@ ghost use Rattle.text.specs.Place.{put_in, next_at, NumberPut};
 pub(crate) fn fits(size: usize, at: usize, k: usize) -> bool
     ensures { result ≡ leb (at + k) size }
 {
-    if size < at {
-        return false;
-    }
-    if size - at < k {
-        return false;
-    }
-    true
+    at <= size && k <= size - at
 }
 
 // Puts bytes at a place, and hands back the next place.

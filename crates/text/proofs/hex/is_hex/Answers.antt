@@ -1,23 +1,16 @@
-use borrow.Author.Tests.{eq-eqb, ne_eqb, lt-ltb, le-ltb}
-use Rattle.basics.proofs.Below.{all_none, all_more, all_stops, all_done}
-use Rattle.text.specs.Hex.{is_hex}
+use Rattle.std.proofs.Common.{◌∙◌, ltb, rules, tests}
+use Rattle.std.proofs.lemmas.Iterator.{YieldsList-from_slice}
+use Rattle.std.proofs.lemmas.Iterator.Search.{all_from_yields_List}
+use borrow.Author.Tests.{eq-eqb, ne_eqb}
+use Rattle.text.specs.Hex.{is_hex, worth}
+use Rattle.text.proofs.Slices.{all_bytes}
 use Rattle.text.proofs.hex.is_hex.Goals as goal
 
-pub returns-then-s-ne0 : goal.returns-then-s-ne0
+pub returns-then-s-eq0 : goal.returns-then-s-eq0
 unfolding is_hex
-returns-then-s-ne0 c = rw (ne_eqb _ _ c.if-s-ne0.true)
+returns-then-s-eq0 c =
+    rw (eq-eqb _ _ c.if-s-eq0.true) (all_from_yields_List (λ x. ltb (worth x) 16) _ _ _ c.all.ensures.ran (YieldsList-from_slice c.args.s.now cc) (λ x b q k. search (rules, tests)) ∙ all_bytes (λ x. ltb (worth x) 16) c.args.s.now)
 
-pub loop-i-init : goal.loop-i-init
-loop-i-init c = all_none _
-
-pub returns-then-worth_of-ge16 : goal.returns-then-worth_of-ge16
+pub returns-else-s-eq0 : goal.returns-else-s-eq0
 unfolding is_hex
-returns-then-worth_of-ge16 c =
-    rw (eq-eqb _ _ c.if-s-ne0.false) (all_stops _ _ c.loop-i.i c.loop-i-test.true (rw (← c.worth_of.ensures) (le-ltb _ _ c.if-worth_of-ge16.true)))
-
-pub loop-i-preserved : goal.loop-i-preserved
-loop-i-preserved c = all_more _ _ c.loop-i.invariant (rw (← c.worth_of.ensures) (lt-ltb _ _ c.if-worth_of-ge16.false))
-
-pub returns : goal.returns
-unfolding is_hex
-returns c = rw (eq-eqb _ _ c.if-s-ne0.false) (all_done _ _ _ c.loop-i.auto.i-end c.loop-i-test.false c.loop-i.invariant)
+returns-else-s-eq0 c = rw (ne_eqb _ _ c.if-s-eq0.false)
