@@ -6,9 +6,8 @@
 
 mod number;
 
-ghost use Rattle.std.specs.Prelude.{◌<◌};
-
 pub use number::{after, less, lower, plus};
+use std::io;
 use std::io::{Error, IsTerminal};
 use text::part;
 
@@ -26,7 +25,7 @@ enum Way {
 }
 
 // What is gathered; how many blanks are held back after it; the system and where in it the page goes; and why some of it did
-// not get there.
+// not get there. The bytes are an array and no `Vec`: that could run out of memory in the middle of a sentence.
 #[derive(Drop)]
 pub struct Page {
     bytes: [u8; ROOM],
@@ -43,8 +42,8 @@ impl Page {
             bytes: [0u8; ROOM],
             size: 0,
             blanks: 0,
-            rt: rt,
-            to: to,
+            rt,
+            to,
             lost: None,
         }
     }
@@ -72,7 +71,7 @@ impl Page {
     // Sends bytes past the page. After a loss no more is sent.
     fn passed(mut self, s: &[u8]) -> Self {
         if self.lost.is_none() {
-            self.lost = write(&self.rt, self.to, s);
+            self.lost = write(&self.rt, self.to, s).err();
         }
         self
     }
@@ -88,9 +87,8 @@ impl Page {
 
     // The bytes put behind what is gathered, where they fit.
     fn placed(mut self, s: &[u8]) -> Self {
-        let mut bytes = self.bytes;
-        self.size = put_in(&mut bytes, self.size, s);
-        self.bytes = bytes;
+        let size = self.size;
+        self.size = put_in(&mut self.bytes, size, s);
         self
     }
 
@@ -111,7 +109,7 @@ impl Page {
     // The bytes k times.
     fn repeated(self, s: &[u8], k: usize) -> Self {
         let mut page = self;
-        for i in 0..k {
+        for _ in 0..k {
             page = page.added(s);
         }
         page
@@ -130,10 +128,7 @@ impl Page {
 
     // Puts the same bytes k times.
     pub fn fill(self, s: &[u8], k: usize) -> Self {
-        if k == 0 {
-            return self;
-        }
-        if s.len() == 0 {
+        if k == 0 || s.is_empty() {
             return self;
         }
         self.spaced().repeated(s, k)
@@ -147,11 +142,8 @@ impl Page {
     // Puts the hex digits of bytes, two a byte.
     pub fn hex(self, s: &[u8]) -> Self {
         let mut page = self;
-        let mut from: usize = 0;
-        while from < s.len() {
-            let to = piece_end(s.len(), from);
-            page = page.hex_piece(part(s, from, to));
-            from = to;
+        for piece in s.chunks(HEX_PIECE) {
+            page = page.hex_piece(piece);
         }
         page
     }
@@ -165,7 +157,7 @@ impl Page {
 
     // Holds back k blanks.
     pub fn blank(mut self, k: usize) -> Self {
-        self.blanks = plus(self.blanks, k);
+        self.blanks = self.blanks.saturating_add(k);
         self
     }
 
@@ -187,7 +179,7 @@ impl Page {
 
     // Bytes, and blanks up to k columns.
     pub fn left(self, s: &[u8], k: usize) -> Self {
-        self.put(s).blank(less(k, s.len()))
+        self.put(s).blank(k.saturating_sub(s.len()))
     }
 
     // A number, and blanks up to k columns.
@@ -199,16 +191,13 @@ impl Page {
 
     // A number, with blanks before it up to k columns.
     pub fn number_right(self, n: usize, k: usize) -> Self {
-        self.blank(less(k, digits(n))).number(n)
+        self.blank(k.saturating_sub(digits(n))).number(n)
     }
 
     // A number and what it counts: with an s where it is not 1.
     pub fn count(self, n: usize, what: &[u8]) -> Self {
         let page = self.number(n).put(b" ").put(what);
-        if n == 1 {
-            return page;
-        }
-        page.put(b"s")
+        if n == 1 { page } else { page.put(b"s") }
     }
 
     // Sends the rest; why some of the text did not get there.
@@ -222,11 +211,11 @@ impl Page {
     }
 }
 
-// Writes bytes; why not all of them were written.
-fn write(rt: &HostRuntime, to: Way, s: &[u8]) -> Option<Error> {
+// Writes bytes; an error where not all of them were written.
+fn write(rt: &HostRuntime, to: Way, s: &[u8]) -> io::Result<()> {
     match to {
-        Way::Output => rt.stdout().write_all(s).err(),
-        Way::Errors => rt.stderr().write_all(s).err(),
+        Way::Output => rt.stdout().write_all(s),
+        Way::Errors => rt.stderr().write_all(s),
     }
 }
 
@@ -243,19 +232,7 @@ fn hex_in(bytes: &mut [u8], s: &[u8]) -> usize {
     text::put_hex(bytes, 0, s)
 }
 
-// The end of the piece of hex that starts at `from`.
-fn piece_end(size: usize, from: usize) -> usize
-    requires { from < size }
-    ensures { from < result }
-{
-    if size - from < HEX_PIECE {
-        return size;
-    }
-    from + HEX_PIECE
-}
-
 // How many digits a number has.
 pub fn digits(n: usize) -> usize {
-    let mut bytes = [0u8; 20];
-    number_in(&mut bytes, n)
+    n.checked_ilog10().map_or(1, |k| k as usize + 1)
 }

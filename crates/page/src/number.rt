@@ -5,35 +5,26 @@ ghost use Rattle.std.specs.Prelude.{◌≡◌, ◌+◌, ◌-◌, min};
 pub fn less(a: usize, b: usize) -> usize
     ensures { result ≡ a - b }
 {
-    if b < a {
-        return a - b;
-    }
-    0
+    a.saturating_sub(b)
 }
 
 // The lower of two numbers.
 pub fn lower(a: usize, b: usize) -> usize
     ensures { result ≡ min a b }
 {
-    if a < b {
-        return a;
-    }
-    b
+    a.min(b)
 }
 
 // The sum; the largest number where it would be over that.
 pub fn plus(a: usize, b: usize) -> usize
     ensures { result ≡ min (a + b) 18446744073709551615 }
 {
-    if usize::MAX - b < a {
-        return usize::MAX;
-    }
-    a + b
+    a.saturating_add(b)
 }
 
 // The next number; the last is its own.
 pub fn after(i: usize) -> usize
     ensures { result ≡ min (i + 1) 18446744073709551615 }
 {
-    plus(i, 1)
+    i.saturating_add(1)
 }
