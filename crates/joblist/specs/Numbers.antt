@@ -1,6 +1,7 @@
 -- The paper's number and place of each answer.
 -- Assumes nothing.
-use Rattle.std.specs.Prelude.{ℕ, Result, Ok, Err}
+use Rattle.std.specs.Prelude.{ℕ, Result}
+use Rattle.refusal.specs.Answer.{number_with, place_with}
 use Rattle.joblist.specs.declared.Place.{Place}
 use Rattle.joblist.specs.declared.Place.TheVariants.{Nowhere, AtJob, AtEdge}
 use Rattle.joblist.specs.declared.Why.{Why}
@@ -38,10 +39,8 @@ place_of Cycle = Nowhere
 
 -- the number of an answer: 0 for yes
 abbrev pub answer_number : Result Unit Why → ℕ
-answer_number (Ok y) = 0
-answer_number (Err w) = number_of w
+answer_number a = number_with number_of a
 
 -- the place of an answer
 abbrev pub answer_place : Result Unit Why → Place
-answer_place (Ok y) = Nowhere
-answer_place (Err w) = place_of w
+answer_place a = place_with Nowhere place_of a

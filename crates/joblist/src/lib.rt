@@ -9,6 +9,9 @@ ghost use Rattle.joblist.specs.Fields.{head_bytes, job_bytes, edge_bytes, job_at
 ghost use Rattle.joblist.specs.Cycle.{reached, cyclic, Named};
 ghost use Rattle.joblist.specs.Answer.{within, counts_answer, good_times, good_budgets, fields_answer, zero_answer, job_answer, largest, rising, good_pair, edge_answer, body_answer, front_answer, list_answer};
 ghost use Rattle.joblist.specs.Numbers.{number_of, place_of, answer_number, answer_place};
+ghost use Rattle.joblist.specs.declared.Place.TheVariants.{Nowhere};
+
+use refusal::Refusal;
 
 // The limits of the first edition.
 pub const MOST_JOBS: usize = 64;
@@ -60,64 +63,74 @@ pub enum Place {
     AtEdge(usize),
 }
 
-// The paper's number of a refusal.
+impl Refusal for Why {
+    type Place = Place;
+
+    ghost number = { number_of };
+
+    ghost place = { place_of };
+
+    ghost nowhere = { Nowhere };
+
+    fn number(self) -> usize {
+        match self {
+            Why::Short => 40,
+            Why::Jobs => 1,
+            Why::Edges => 2,
+            Why::Slots => 3,
+            Why::Length => 43,
+            Why::Zero => 44,
+            Why::Level(_) => 6,
+            Why::Times(_) => 4,
+            Why::Budgets(_) => 5,
+            Why::Pair(_) => 7,
+            Why::LowToHigh(_) => 8,
+            Why::Cycle => 9,
+        }
+    }
+
+    fn place(self) -> Place {
+        match self {
+            Why::Level(j) | Why::Times(j) | Why::Budgets(j) => Place::AtJob(j),
+            Why::Pair(e) | Why::LowToHigh(e) => Place::AtEdge(e),
+            Why::Short
+            | Why::Jobs
+            | Why::Edges
+            | Why::Slots
+            | Why::Length
+            | Why::Zero
+            | Why::Cycle => Place::Nowhere,
+        }
+    }
+
+    fn nowhere() -> Place {
+        Place::Nowhere
+    }
+}
+
+// The number of a refusal, for callers that do not name the trait.
 pub fn number_of(w: Why) -> usize
     ensures { result ≡ number_of w }
 {
-    match w {
-        Why::Short => 40,
-        Why::Jobs => 1,
-        Why::Edges => 2,
-        Why::Slots => 3,
-        Why::Length => 43,
-        Why::Zero => 44,
-        Why::Level(_) => 6,
-        Why::Times(_) => 4,
-        Why::Budgets(_) => 5,
-        Why::Pair(_) => 7,
-        Why::LowToHigh(_) => 8,
-        Why::Cycle => 9,
-    }
+    w.number()
 }
 
-// The paper's place of a refusal.
 pub fn place_of(w: Why) -> Place
     ensures { result ≡ place_of w }
 {
-    match w {
-        Why::Short => Place::Nowhere,
-        Why::Jobs => Place::Nowhere,
-        Why::Edges => Place::Nowhere,
-        Why::Slots => Place::Nowhere,
-        Why::Length => Place::Nowhere,
-        Why::Zero => Place::Nowhere,
-        Why::Level(j) => Place::AtJob(j),
-        Why::Times(j) => Place::AtJob(j),
-        Why::Budgets(j) => Place::AtJob(j),
-        Why::Pair(e) => Place::AtEdge(e),
-        Why::LowToHigh(e) => Place::AtEdge(e),
-        Why::Cycle => Place::Nowhere,
-    }
+    w.place()
 }
 
-// The number of an answer: 0 for yes.
 pub fn answer_number(a: Result<(), Why>) -> usize
     ensures { result ≡ answer_number a }
 {
-    match a {
-        Ok(()) => 0,
-        Err(w) => number_of(w),
-    }
+    refusal::answer_number(a)
 }
 
-// The place of an answer.
 pub fn answer_place(a: Result<(), Why>) -> Place
     ensures { result ≡ answer_place a }
 {
-    match a {
-        Ok(()) => Place::Nowhere,
-        Err(w) => place_of(w),
-    }
+    refusal::answer_place(a)
 }
 
 // From here to `rises`, inner functions that read fields where they stand; crates above use them too.
