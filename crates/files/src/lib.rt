@@ -3,34 +3,21 @@
 
 mod why;
 
-use page::{Page, plus};
-use std::fs;
+use page::Page;
 use std::fs::OpenOptions;
 use std::io::{Error, Read, Write};
-use text::{part, same};
+use std::{fs, io};
+use text::part;
 pub use why::fail;
 
 // The bytes that are read at most: one more than a file may have.
-pub const MOST: usize = 131072;
+const MOST: u64 = 131072;
+
+// The bytes of a file that are looked at at a time, where it is not kept.
+const PIECE: usize = 4096;
 
 // The longest path of a file with the end that its side file has.
 const PATH_ROOM: usize = 4104;
-
-// A file's bytes, and how many; or that there are none, and then why was said.
-#[derive(Drop)]
-pub struct File {
-    pub bytes: [u8; MOST],
-    pub size: usize,
-    pub is_read: bool,
-}
-
-// What a read gives.
-#[derive(Drop)]
-pub enum Piece {
-    More(usize),
-    End,
-    Failed(Error),
-}
 
 // Sends the rest of a page, and says so where some of it was lost.
 pub fn send(page: Page) {
@@ -49,164 +36,150 @@ pub fn complain(page: Page) {
 const NO_TEXT: i32 = 84;
 
 // A path as the system takes it.
-fn path_of(path: &[u8]) -> Result<&str, Error> {
-    match str::from_utf8(path) {
-        Ok(s) => Ok(s),
-        Err(_) => Err(Error::from_raw_os_error(NO_TEXT)),
-    }
+fn path_of(path: &[u8]) -> io::Result<&str> {
+    str::from_utf8(path).map_err(|_| Error::from_raw_os_error(NO_TEXT))
 }
 
 // Opens a file to read it.
-pub fn open(rt: &HostRuntime, path: &[u8]) -> Result<fs::File, Error> {
+pub fn open(rt: &HostRuntime, path: &[u8]) -> io::Result<fs::File> {
     fs::File::open(rt, path_of(path)?)
 }
 
 // Opens a file to read it and to write over its bytes.
-pub fn open_update(rt: &HostRuntime, path: &[u8]) -> Result<fs::File, Error> {
+pub fn open_update(rt: &HostRuntime, path: &[u8]) -> io::Result<fs::File> {
     let mut how = OpenOptions::new();
     how.read(true).write(true);
     how.open(rt, path_of(path)?)
 }
 
 // Makes a file that is not there yet, and opens it to write.
-fn open_new(rt: &HostRuntime, path: &[u8]) -> Result<fs::File, Error> {
-    let mut how = OpenOptions::new();
-    how.write(true).create_new(true);
-    how.open(rt, path_of(path)?)
+fn open_new(rt: &HostRuntime, path: &[u8]) -> io::Result<fs::File> {
+    fs::File::create_new(rt, path_of(path)?)
 }
 
-// One read, behind what is there.
-pub fn read_more(file: &fs::File, buf: &mut [u8], have: usize) -> Piece {
+// One read, behind what is there: how many bytes, none at the end or where the buffer is full.
+pub fn read_more(file: &fs::File, buf: &mut [u8], have: usize) -> io::Result<usize> {
     if buf.len() <= have {
-        return Piece::End;
+        return Ok(0);
     }
     let mut from = file;
-    match from.read(&mut buf[have..]) {
-        Ok(0) => Piece::End,
-        Ok(k) => Piece::More(k),
-        Err(e) => Piece::Failed(e),
-    }
+    from.read(&mut buf[have..])
 }
 
-// Reads to the end, or until the buffer is full; how many bytes, or why a read failed.
-fn read_all(file: &fs::File, buf: &mut [u8]) -> Result<usize, Error> {
-    let mut have = 0;
-    for turn in 0..MOST {
-        match read_more(file, buf, have) {
-            Piece::More(k) => have = plus(have, k),
-            Piece::End => return Ok(have),
-            Piece::Failed(e) => return Err(e),
+// Reads to the end, or as many bytes as are read at most.
+fn read_all(rt: &HostRuntime, file: &fs::File) -> io::Result<Vec<u8>> {
+    let mut bytes = Vec::new(rt.alloc());
+    file.take(MOST).read_to_end(&mut bytes)?;
+    Ok(bytes)
+}
+
+// Reads what is open, and leaves it open. Where there is nothing to hand back, it was said why.
+pub fn read_open(rt: &HostRuntime, file: &fs::File, path: &[u8]) -> Option<Vec<u8>> {
+    match read_all(rt, file) {
+        Ok(bytes) if (bytes.len() as u64) < MOST => Some(bytes),
+        Ok(_) => {
+            let over = Page::errors(rt).put(path);
+            complain(over.line(
+                b": over 131,071 bytes, and no plan and no text of jobs or tables is",
+            ));
+            None
         }
-    }
-    Ok(have)
-}
-
-// The same; one more than there can be where a read failed, and why is said.
-fn read_whole(rt: &HostRuntime, file: &fs::File, path: &[u8], buf: &mut [u8]) -> usize {
-    match read_all(file, buf) {
-        Ok(k) => k,
         Err(e) => {
             fail(Page::errors(rt), path, e);
-            MOST + 1
+            None
         }
     }
 }
 
-// Reads what is open, and leaves it open.
-pub fn read_open(rt: &HostRuntime, file: &fs::File, path: &[u8]) -> File {
-    let mut bytes = [0u8; MOST];
-    let size = read_whole(rt, file, path, &mut bytes);
-    if size == MOST {
-        let over = Page::errors(rt).put(path);
-        complain(over.line(b": over 131,071 bytes, and no plan and no text of jobs or tables is"));
-    }
-    File {
-        bytes: bytes,
-        size: size,
-        is_read: size < MOST,
-    }
-}
-
-fn unread() -> File {
-    File {
-        bytes: [0u8; MOST],
-        size: 0,
-        is_read: false,
-    }
-}
-
-// Reads a file.
-pub fn read(rt: &HostRuntime, path: &[u8]) -> File {
+// Reads a file. Where there is nothing to hand back, it was said why.
+pub fn read(rt: &HostRuntime, path: &[u8]) -> Option<Vec<u8>> {
     match open(rt, path) {
         Ok(file) => read_open(rt, &file, path),
         Err(e) => {
             fail(Page::errors(rt), path, e);
-            unread()
+            None
         }
     }
 }
 
+// Whether what is left of a file is just these bytes. It is not kept: no memory can run out here.
+fn holds(file: &fs::File, bytes: &[u8]) -> io::Result<bool> {
+    let mut piece = [0u8; PIECE];
+    let mut left = bytes;
+    for _ in 0..MOST {
+        let k = read_more(file, &mut piece, 0)?;
+        if k == 0 {
+            return Ok(left.is_empty());
+        }
+        let Some(rest) = left.strip_prefix(part(&piece, 0, k)) else {
+            return Ok(false);
+        };
+        left = rest;
+    }
+    Ok(false)
+}
+
 // Whether a file is there that has just these bytes.
 pub fn has(rt: &HostRuntime, path: &[u8], bytes: &[u8]) -> bool {
-    let Ok(file) = open(rt, path) else {
-        return false;
-    };
-    let mut held = [0u8; MOST];
-    let size = read_all(&file, &mut held).unwrap_or(MOST + 1);
-    same(part(&held, 0, size), bytes)
+    match open(rt, path) {
+        Ok(file) => holds(&file, bytes).unwrap_or(false),
+        Err(_) => false,
+    }
 }
 
 // Writes all, and has it on the disk.
-fn put_all(file: &fs::File, bytes: &[u8]) -> Result<(), Error> {
+fn put_all(file: &fs::File, bytes: &[u8]) -> io::Result<()> {
     let mut to = file;
     to.write_all(bytes)?;
     file.sync_all()
 }
 
 // Takes a file away again.
-fn unlink(rt: &HostRuntime, path: &[u8]) -> Result<(), Error> {
+fn unlink(rt: &HostRuntime, path: &[u8]) -> io::Result<()> {
     fs::remove_file(rt, path_of(path)?)
 }
 
 // Gives a file another name.
-fn rename(rt: &HostRuntime, from: &[u8], to: &[u8]) -> Result<(), Error> {
+fn rename(rt: &HostRuntime, from: &[u8], to: &[u8]) -> io::Result<()> {
     fs::rename(rt, path_of(from)?, path_of(to)?)
 }
 
+// Gives a side file the name of the path; where that fails, takes it away again.
+fn put_in_place(rt: &HostRuntime, side: &[u8], path: &[u8]) -> io::Result<()> {
+    let renamed = rename(rt, side, path);
+    if renamed.is_err() {
+        let _ = unlink(rt, side);
+    }
+    renamed
+}
+
 // Makes a file of these bytes that is not there yet, whole or not at all.
-fn fill(rt: &HostRuntime, path: &[u8], bytes: &[u8]) -> bool {
-    let made = match open_new(rt, path) {
-        Ok(file) => put_all(&file, bytes),
+fn fill(rt: &HostRuntime, path: &[u8], bytes: &[u8]) -> io::Result<()> {
+    let file = open_new(rt, path)?;
+    let filled = put_all(&file, bytes);
+    if filled.is_err() {
+        let _ = unlink(rt, path);
+    }
+    filled
+}
+
+// Whether something was done with a file. Where not, it is said why.
+fn is_done(rt: &HostRuntime, path: &[u8], done: io::Result<()>) -> bool {
+    match done {
+        Ok(()) => true,
         Err(e) => {
             fail(Page::errors(rt), path, e);
-            return false;
+            false
         }
-    };
-    if let Err(e) = made {
-        fail(Page::errors(rt), path, e);
-        let _ = unlink(rt, path);
-        return false;
     }
-    true
 }
 
-// Writes the side file and gives it the path's name.
-fn write_by(rt: &HostRuntime, side: &[u8], path: &[u8], bytes: &[u8]) -> bool {
-    if !fill(rt, side, bytes) {
-        return false;
-    }
-    if let Err(e) = rename(rt, side, path) {
-        fail(Page::errors(rt), path, e);
-        let _ = unlink(rt, side);
-        return false;
-    }
-    true
-}
-
-// The path with another end.
-fn side_of(name: &mut [u8], path: &[u8]) -> usize {
-    let at = text::put(name, 0, path);
-    text::put(name, at, b".new")
+// The path with another end. The room is an array and no `Vec`: what is told of a path that is too long for it stays, and no
+// memory can run out here.
+fn side_of<'a>(room: &'a mut [u8], path: &[u8]) -> &'a [u8] {
+    let at = text::put(room, 0, path);
+    let end = text::put(room, at, b".new");
+    part(room, 0, end)
 }
 
 // Says that a file was not written, after it was said why.
@@ -216,20 +189,21 @@ pub fn unwritten(rt: &HostRuntime, path: &[u8]) {
 
 // Writes a file, whole or not at all: first beside it, as PATH.new, and then by a new name.
 pub fn write(rt: &HostRuntime, path: &[u8], bytes: &[u8]) -> bool {
-    let mut name = [0u8; PATH_ROOM];
-    let k = side_of(&mut name, path);
-    if write_by(rt, part(&name, 0, k), path, bytes) {
-        return true;
+    let mut room = [0u8; PATH_ROOM];
+    let side = side_of(&mut room, path);
+    let is_written = is_done(rt, side, fill(rt, side, bytes))
+        && is_done(rt, path, put_in_place(rt, side, path));
+    if !is_written {
+        unwritten(rt, path);
     }
-    unwritten(rt, path);
-    false
+    is_written
 }
 
 // Writes a file that is not there yet: one that is there stays as it is.
 pub fn create(rt: &HostRuntime, path: &[u8], bytes: &[u8]) -> bool {
-    if fill(rt, path, bytes) {
-        return true;
+    let is_made = is_done(rt, path, fill(rt, path, bytes));
+    if !is_made {
+        unwritten(rt, path);
     }
-    unwritten(rt, path);
-    false
+    is_made
 }

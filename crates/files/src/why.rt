@@ -1,15 +1,16 @@
 // What failed, and why, in the system's own words.
 use crate::complain;
-use page::{Page, less};
+use page::Page;
 use std::fmt;
 use std::fmt::Write;
 use std::io::Error;
-use text::{find, part};
+use text::part;
 
 // The bytes of the longest words that an error has, with its number.
 const ROOM: usize = 320;
 
-// An error's words: as the library writes them, with the error's number in brackets behind.
+// An error's words: as the library writes them, with the error's number in brackets behind. The bytes are an array and no
+// `String`: the error may be that memory has run out.
 #[derive(Drop)]
 struct Words {
     bytes: [u8; ROOM],
@@ -18,7 +19,8 @@ struct Words {
 
 impl Write for Words {
     fn write_str(&mut self, s: &str) -> fmt::Result {
-        self.size = put_in(&mut self.bytes, self.size, s.as_bytes());
+        let size = self.size;
+        self.size = put_in(&mut self.bytes, size, s.as_bytes());
         Ok(())
     }
 }
@@ -37,23 +39,17 @@ fn words_of(e: Error) -> Words {
     words
 }
 
-// What stands before the brackets.
+// What stands before the brackets, and before the blank in front of them.
 fn before_number(s: &[u8]) -> &[u8] {
-    let at = find(s, 0, b'(');
-    if at < s.len() {
-        return part(s, 0, less(at, 1));
+    match s.iter().position(|x| *x == b'(') {
+        Some(at) => &s[..at.saturating_sub(1)],
+        None => s,
     }
-    s
 }
 
 // Says what failed, and why, and sends the page.
 pub fn fail(page: Page, what: &[u8], e: Error) {
     let words = words_of(e);
-    let bytes = words.bytes;
-    let size = words.size;
-    complain(
-        page.put(what)
-            .put(b": ")
-            .line(before_number(part(&bytes, 0, size))),
-    );
+    let reason = before_number(part(&words.bytes, 0, words.size));
+    complain(page.put(what).put(b": ").line(reason));
 }
