@@ -91,8 +91,8 @@ fn verdict_place(v: Verdict) -> Place
     ensures { result ≡ verdict_place v }
 {
     match v {
-        Verdict::Yes => no_place(),
-        Verdict::No(w) => spot_place(verdict::place_of(w)),
+        Ok(()) => no_place(),
+        Err(w) => spot_place(verdict::place_of(w)),
     }
 }
 

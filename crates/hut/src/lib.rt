@@ -96,7 +96,7 @@ pub struct LogByte {
 
 impl Answer {
     // What an answer has not got; as a switch slot it is document 01's own mark of no switch.
-    pub const ABSENT: usize = verdict::Verdict::NO_SWITCH;
+    pub const ABSENT: usize = verdict::Fault::NO_SWITCH;
 }
 
 // The check of a list and two tables.

@@ -198,7 +198,7 @@ fn build_in(
         return Built::No(w);
     }
     let v = verdict::check(list, lo, hi);
-    let Verdict::Yes = v else {
+    let Ok(()) = v else {
         return Built::No(BuildWhy::Rejected(v));
     };
     Built::Plan(planfile::put_plan(list, lo, hi, out))

@@ -8,7 +8,7 @@ use page::{Page, less, plus};
 use picture::shapes::{head, key, label, text_at, text_end, upright};
 use picture::sheet::{MARGIN, Sheet, filled, larger, numbers, slot_box, window_row};
 use planfile::list_of;
-use verdict::{Fault, Objection, Verdict};
+use verdict::{Fault, Objection};
 
 // How a slot looks that did not run, and the fault.
 const STYLE: [u8; 145] =
@@ -77,7 +77,7 @@ fn slots(page: Page, plan: &[u8], sheet: Sheet, night: Night, to: usize) -> Page
 
 // The switch: a line at the end of its slot.
 fn switch(page: Page, sheet: Sheet, x: usize) -> Page {
-    if x == Verdict::NO_SWITCH {
+    if x == Fault::NO_SWITCH {
         return page;
     }
     let at = sheet.x_of(plus(x, 1));
@@ -165,7 +165,7 @@ pub fn put_picture(page: Page, plan: &[u8], names: Names) -> Page {
     let w = witness_of(plan);
     let v = w.verdict;
     let needs = w.needs;
-    let Verdict::No(o) = v else {
+    let Err(o) = v else {
         return page;
     };
     let Objection::Bad(f) = o else {

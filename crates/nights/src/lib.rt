@@ -4,7 +4,7 @@
 use jobtext::Names;
 use page::Page;
 use planfile::{high_of, list_of, low_of};
-use verdict::{Objection, Verdict};
+use verdict::Objection;
 use witness::needs::Witness;
 
 pub mod night;
@@ -23,7 +23,7 @@ pub fn put_night(page: Page, plan: &[u8], names: Names) -> Page {
     let w = witness_of(plan);
     let v = w.verdict;
     let needs = w.needs;
-    let Verdict::No(o) = v else {
+    let Err(o) = v else {
         return page;
     };
     let Objection::Bad(f) = o else {

@@ -11,7 +11,7 @@ ghost use Rattle.planfile.specs.Answer.{shape_of, parts_answer, read_of, write_o
 ghost use Rattle.planfile.specs.Numbers.{read_why_number, read_why_place, read_number, read_place, write_why_number, write_why_place, wrote_number, wrote_place};
 
 use joblist::{EDGE_BYTES, HEAD_BYTES, JOB_BYTES, Place};
-use verdict::{Objection, Spot, Verdict};
+use verdict::{Objection, Spot};
 
 // The mark that ends a plan of the first edition, 54 54 50 31, as the 32 bits that it is read as.
 pub const MARK: usize = 0x31505454;
@@ -192,7 +192,7 @@ pub fn write(list: &[u8], lo: &[u8], hi: &[u8], out: &mut [u8]) -> Wrote
         × (out.new ≡ out_after first_edition list.now lo.now hi.now out.old) }
 {
     let v = verdict::check(list, lo, hi);
-    if let Verdict::No(w) = v {
+    if let Err(w) = v {
         return Wrote::No(WriteWhy::Checked(w));
     }
     if out.len() < list.len() + lo.len() + hi.len() + TRAILER_BYTES {
@@ -308,7 +308,7 @@ fn read_parts(plan: &[u8]) -> ReadAnswer
     let low = low_of(plan);
     let high = high_of(plan);
     let v = verdict::check(list, low, high);
-    if let Verdict::No(w) = v {
+    if let Err(w) = v {
         return ReadAnswer::No(ReadWhy::Checked(w));
     }
     ReadAnswer::Plan(shape_of(plan))

@@ -64,8 +64,8 @@ pub fn put_spot(page: Page, s: Spot) -> Page {
 pub fn put_verdict(page: Page, v: Verdict) -> Page {
     let next = page.number(verdict::answer_number(v));
     match v {
-        Verdict::Yes => next,
-        Verdict::No(w) => put_spot(next, verdict::place_of(w)),
+        Ok(()) => next,
+        Err(w) => put_spot(next, verdict::place_of(w)),
     }
 }
 

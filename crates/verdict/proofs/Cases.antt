@@ -19,7 +19,7 @@ use Rattle.joblist.specs.declared.Why.TheVariants.{Short}
 use Rattle.verdict.specs.Answer.{check_of, odd_entry, tables_answer}
 use Rattle.verdict.specs.declared.Fault.TheVariants.{Before, Late}
 use Rattle.verdict.specs.declared.Objection.TheVariants.{Bad, Entry, OfList, Size}
-use Rattle.verdict.specs.declared.Verdict.TheVariants.{No, Yes}
+use Rattle.std.specs.Prelude.{Ok, Err}
 
 -- list A
 abbrev list_a : List ℕ
@@ -39,18 +39,18 @@ table a b c d e = a ∷ b ∷ c ∷ d ∷ e ∷ []
 abbrev all_idle : List ℕ
 all_idle = table idle idle idle idle idle
 
-pub worked : (check_of first_edition list_a (table 1 1 0 idle idle) (table 1 1 0 0 0) ≡ Yes)
-    × (check_of first_edition list_a (table 1 1 0 idle idle) (table 0 0 0 idle idle) ≡ No (Bad (Late 5 0 2)))
-    × (check_of first_edition list_edge (table 1 1 0 idle idle) all_idle ≡ No (Bad (Before 0 1 0 no_switch)))
-    × (check_of first_edition list_a (table 1 1 0 0 idle) (table 1 1 0 0 0) ≡ Yes)
-    × (check_of first_edition list33 (table 1 1 0 0 0) all_idle ≡ Yes)
+pub worked : (check_of first_edition list_a (table 1 1 0 idle idle) (table 1 1 0 0 0) ≡ Ok tt)
+    × (check_of first_edition list_a (table 1 1 0 idle idle) (table 0 0 0 idle idle) ≡ Err (Bad (Late 5 0 2)))
+    × (check_of first_edition list_edge (table 1 1 0 idle idle) all_idle ≡ Err (Bad (Before 0 1 0 no_switch)))
+    × (check_of first_edition list_a (table 1 1 0 0 idle) (table 1 1 0 0 0) ≡ Ok tt)
+    × (check_of first_edition list33 (table 1 1 0 0 0) all_idle ≡ Ok tt)
 unfolding check_of tables_answer odd_entry list_answer front_answer counts_answer within body_answer fields_answer good_times good_budgets largest rising good_pair cyclic walk any_below turns in_turn edge_in u16_at first_fault search_from switches switch_at try_switch reaches_budget scan fault_at fault_of owed late_job step slot_with outran runs ready waits_for next_mode find needs_after one_more switch_to
 worked = (refl, refl, refl, refl, refl)
 
 -- 43 before 45, and the odd entry of table LO before that of table HI
-pub refused : (check_of first_edition list_a (table 9 1 0 idle idle) (1 ∷ []) ≡ No Size)
-    × (check_of first_edition list_a (table 1 1 0 9 idle) (table 9 9 0 0 0) ≡ No (Entry 3))
-    × (check_of first_edition list_a (table 1 1 0 idle idle) (table 1 2 0 0 0) ≡ No (Entry 1))
-    × (check_of first_edition [] [] [] ≡ No (OfList Short))
+pub refused : (check_of first_edition list_a (table 9 1 0 idle idle) (1 ∷ []) ≡ Err Size)
+    × (check_of first_edition list_a (table 1 1 0 9 idle) (table 9 9 0 0 0) ≡ Err (Entry 3))
+    × (check_of first_edition list_a (table 1 1 0 idle idle) (table 1 2 0 0 0) ≡ Err (Entry 1))
+    × (check_of first_edition [] [] [] ≡ Err (OfList Short))
 unfolding check_of tables_answer odd_entry list_answer front_answer counts_answer within body_answer fields_answer good_times good_budgets largest cyclic walk any_below turns in_turn u16_at find
 refused = (refl, refl, refl, refl)

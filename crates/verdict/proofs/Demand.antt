@@ -12,6 +12,7 @@ use lib.Dec.{ltb}
 use lib.ListN.{length}
 use Rattle.basics.proofs.Find.{find_some}
 use Rattle.basics.proofs.Tests.{of_false}
+use Rattle.basics.specs.Chain.{◌⨾◌}
 use Rattle.basics.specs.Find.{find}
 use Rattle.basics.specs.Limits.{Limits}
 use Rattle.basics.specs.Marks.{idle}
@@ -20,16 +21,16 @@ use Rattle.frame.specs.Jobs.{Frame}
 use Rattle.frame.specs.Search.{Finding, first_fault, found, nothing}
 use Rattle.joblist.proofs.Accepted.{accepted}
 use Rattle.joblist.specs.Fields.{jobs, slots}
-use Rattle.joblist.specs.declared.ListAnswer.{ListAnswer}
+use Rattle.joblist.specs.declared.Why.{Why}
 use Rattle.verdict.proofs.Tables.{odd_job, odd_test}
 use Rattle.verdict.proofs.WellFormed.{well_formed}
-use Rattle.verdict.specs.Answer.{◌⨾◌, check_of, fault_of, odd_entry, of_list, search_answer, switch_of, tables_answer}
+use Rattle.verdict.specs.Answer.{check_of, fault_of, odd_entry, of_list, search_answer, switch_of, tables_answer}
 use Rattle.verdict.specs.Count.{entry_at}
 use Rattle.verdict.specs.Demand.{Demand3, GoodTable, Input, RealFault}
 use Rattle.verdict.specs.FrameOf.{frame_of}
 use Rattle.verdict.specs.declared.Fault.{Fault}
 use Rattle.verdict.specs.declared.Objection.TheVariants.{Bad}
-use Rattle.verdict.specs.declared.Verdict.TheVariants.{No, Yes}
+use Rattle.std.specs.Prelude.{Result, Ok, Err}
 use Rattle.frame.specs.Search.{Fault as Found}
 use Rattle.frame.proofs.Demand.{demand3 as frame-demand3}
 
@@ -58,19 +59,19 @@ module _ (lim : Limits) (s lo hi : List ℕ) (input : Input lim s lo hi) where
   pub check_is : check_of lim s lo hi ≡ search_answer (first_fault (frame_of s lo hi))
   unfolding check_of tables_answer
   check_is =
-      ap (λ (a : ListAnswer). of_list a ⨾ tables_answer s lo hi) input.list
+      ap (λ (a : Result Unit Why). of_list a ⨾ tables_answer s lo hi) input.list
       ∙ rw (eq-eqb (length lo) (slots s) input.low.size, eq-eqb (length hi) (slots s) input.high.size, good_table s lo input.low, good_table s hi input.high)
 
-  yes_nothing : (a : Finding) → search_answer a ≡ Yes → a ≡ nothing
+  yes_nothing : (a : Finding) → search_answer a ≡ Ok tt → a ≡ nothing
   yes_nothing nothing h = refl
   yes_nothing (found f) h = let z : ◌≡◌ {A = ℕ} 0 1 = cc in absurd (omega arith)
 
-  no_found : (a : Finding) (f : Fault) → first_fault F ≡ a → search_answer a ≡ No (Bad f) → ((g : Found) → first_fault F ≡ found g → Real F g) → RealFault s lo hi f
+  no_found : (a : Finding) (f : Fault) → first_fault F ≡ a → search_answer a ≡ Err (Bad f) → ((g : Found) → first_fault F ≡ found g → Real F g) → RealFault s lo hi f
   no_found nothing f p h k = let z : ◌≡◌ {A = ℕ} 0 1 = cc in absurd (omega arith)
   no_found (found g) f p h k =
       record { fault = g; said = (let z : fault_of g.slot (switch_of g.chain) g.kind ≡ f = cc in z); real = k g p }
 
-  either : (a : Finding) → check_of lim s lo hi ≡ search_answer a → (check_of lim s lo hi ≡ Yes) ⊎ ((f : Fault) × (check_of lim s lo hi ≡ No (Bad f)))
+  either : (a : Finding) → check_of lim s lo hi ≡ search_answer a → (check_of lim s lo hi ≡ Ok tt) ⊎ ((f : Fault) × (check_of lim s lo hi ≡ Err (Bad f)))
   either nothing h = inl h
   either (found f) h = inr (fault_of f.slot (switch_of f.chain) f.kind, h)
 

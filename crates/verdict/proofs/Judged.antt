@@ -12,31 +12,30 @@ use lib.Dec.{T, eqb, ltb}
 use lib.ListN.{length}
 use Rattle.basics.proofs.Find.{find_none}
 use Rattle.basics.proofs.Tests.{of_true}
+use Rattle.basics.specs.Chain.{◌⨾◌, need}
 use Rattle.basics.specs.Limits.{Limits}
 use Rattle.basics.specs.Marks.{idle}
 use Rattle.frame.specs.Demand.{EveryExecutionGood}
 use Rattle.joblist.specs.Answer.{list_answer}
 use Rattle.joblist.specs.Fields.{jobs, slots}
-use Rattle.joblist.specs.declared.ListAnswer.{ListAnswer}
+use Rattle.joblist.specs.declared.Why.{Why}
 use Rattle.verdict.proofs.Demand.{demand3}
 use Rattle.verdict.proofs.Tables.{odd_test}
-use Rattle.verdict.specs.Answer.{◌⨾◌, check_of, entry_answer, need, odd_entry, of_list, tables_answer}
+use Rattle.verdict.specs.Answer.{Verdict, check_of, entry_answer, odd_entry, of_list, tables_answer}
 use Rattle.verdict.specs.Count.{entry_at}
 use Rattle.verdict.specs.Demand.{GoodTable, Input, RealFault}
 use Rattle.verdict.specs.FrameOf.{frame_of}
 use Rattle.verdict.specs.declared.Fault.{Fault}
 use Rattle.verdict.specs.declared.Objection.TheVariants.{Bad, Entry, OfList, Size}
-use Rattle.verdict.specs.declared.Verdict.{Verdict}
-use Rattle.verdict.specs.declared.Verdict.TheVariants.{No, Yes}
-use Rattle.joblist.specs.declared.ListAnswer.TheVariants.{Good, No as NoList}
+use Rattle.std.specs.Prelude.{Result, Ok, Err}
 
 -- an answer that only the search gives
 abbrev pub searched : Verdict → Bool
-searched Yes = true
-searched (No (Bad f)) = true
-searched (No (Entry t)) = false
-searched (No Size) = false
-searched (No (OfList w)) = false
+searched (Ok u) = true
+searched (Err (Bad f)) = true
+searched (Err (Entry t)) = false
+searched (Err Size) = false
+searched (Err (OfList w)) = false
 
 size_searched : (b : Bool) (r : Verdict) → T (searched (need b Size ⨾ r)) → (b ≡ true) × T (searched r)
 size_searched true r h = (refl, h)
@@ -46,9 +45,9 @@ entry_searched : (o : Option ℕ) (r : Verdict) → T (searched (entry_answer o 
 entry_searched none r h = (refl, h)
 entry_searched (some t) r h = absurd h
 
-list_searched : (a : ListAnswer) (r : Verdict) → T (searched (of_list a ⨾ r)) → (a ≡ Good) × T (searched r)
-list_searched Good r h = (refl, h)
-list_searched (NoList w) r h = absurd h
+list_searched : (a : Result Unit Why) (r : Verdict) → T (searched (of_list a ⨾ r)) → (a ≡ Ok tt) × T (searched r)
+list_searched (Ok u) r h = (refl, h)
+list_searched (Err w) r h = absurd h
 
 -- a table of L bytes with no odd entry is good
 none_odd : (s table : List ℕ) → length table ≡ slots s → odd_entry table (jobs s) ≡ none → GoodTable s table
@@ -77,13 +76,13 @@ module _ (lim : Limits) (s lo hi : List ℕ) where
       record { list = a.0; low = none_odd s lo (eqb-true _ _ b.0) d.0; high = none_odd s hi (eqb-true _ _ c.0) e.0 }
 
   -- a yes says that every execution is good, with nothing asked of the input
-  pub yes_good : check_of lim s lo hi ≡ Yes → Input lim s lo hi × EveryExecutionGood (frame_of s lo hi)
+  pub yes_good : check_of lim s lo hi ≡ Ok tt → Input lim s lo hi × EveryExecutionGood (frame_of s lo hi)
   yes_good y =
       let i = judged_input (rw y tt) in
       (i, (demand3 lim s lo hi i).yes_iff.0 y)
 
   -- and a no from 10 to 12 is a bad slot of a real execution
-  pub no_bad : (f : Fault) → check_of lim s lo hi ≡ No (Bad f) → Input lim s lo hi × RealFault s lo hi f
+  pub no_bad : (f : Fault) → check_of lim s lo hi ≡ Err (Bad f) → Input lim s lo hi × RealFault s lo hi f
   no_bad f y =
       let i = judged_input (rw y tt) in
       (i, (demand3 lim s lo hi i).no_real f y)

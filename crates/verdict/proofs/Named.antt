@@ -15,23 +15,22 @@ use Rattle.verdict.proofs.Find.{first_none, first_some}
 use Rattle.verdict.specs.Count.{entries_in}
 use Rattle.verdict.specs.Inner.{first_of, named_told, square, switches_at}
 use Rattle.verdict.specs.declared.Fault.TheVariants.{Before, Early}
-use Rattle.verdict.specs.declared.First.TheVariants.{At, Nothing}
-use Rattle.verdict.specs.declared.Search.TheVariants.{Fine, Found}
+use Rattle.std.specs.Prelude.{Some, None, Ok, Err}
 
 module _ (owed soon : Bool) (t j x : ℕ) (o : Option ℕ) where
-  pub named_not : owed ≡ false → Fine ≡ named_told owed soon t j x o
+  pub named_not : owed ≡ false → Ok tt ≡ named_told owed soon t j x o
   unfolding named_told
   named_not p = sym (rw p)
 
-  pub named_early : owed ≡ true → soon ≡ true → Found (Early t j x) ≡ named_told owed soon t j x o
+  pub named_early : owed ≡ true → soon ≡ true → Err (Early t j x) ≡ named_told owed soon t j x o
   unfolding named_told
   named_early p q = sym (rw (p, q))
 
-  pub named_free : owed ≡ true → soon ≡ false → first_of o ≡ Nothing → Fine ≡ named_told owed soon t j x o
+  pub named_free : owed ≡ true → soon ≡ false → first_of o ≡ None → Ok tt ≡ named_told owed soon t j x o
   unfolding named_told
   named_free p q r = sym (rw (p, q, first_none o r))
 
-  pub named_before : (k : ℕ) → owed ≡ true → soon ≡ false → first_of o ≡ At k → Found (Before t j k x) ≡ named_told owed soon t j x o
+  pub named_before : (k : ℕ) → owed ≡ true → soon ≡ false → first_of o ≡ Some k → Err (Before t j k x) ≡ named_told owed soon t j x o
   unfolding named_told
   named_before k p q r = sym (rw (p, q, first_some o k r))
 
@@ -52,10 +51,10 @@ module _ (s : List ℕ) (n : ℕ) (lo : List ℕ) (t j : ℕ) where
 
 -- whether a predecessor is waited for, of the square alone and of the list's
 module _ (s : List ℕ) (n : ℕ) (b : List Bool) (need had : List ℕ) (j : ℕ) where
-  pub waits_some : (p : ℕ) → first_of (waits_for (square [] n b) (units_of need) had j) ≡ At p → is_none (waits_for (square s n b) (units_of need) had j) ≡ false
+  pub waits_some : (p : ℕ) → first_of (waits_for (square [] n b) (units_of need) had j) ≡ Some p → is_none (waits_for (square s n b) (units_of need) had j) ≡ false
   unfolding waits_for
   waits_some p h = ap is_none (first_some (waits_for (square [] n b) (units_of need) had j) p h)
 
-  pub waits_none : first_of (waits_for (square [] n b) (units_of need) had j) ≡ Nothing → is_none (waits_for (square s n b) (units_of need) had j) ≡ true
+  pub waits_none : first_of (waits_for (square [] n b) (units_of need) had j) ≡ None → is_none (waits_for (square s n b) (units_of need) had j) ≡ true
   unfolding waits_for
   waits_none h = ap is_none (first_none (waits_for (square [] n b) (units_of need) had j) h)

@@ -20,10 +20,9 @@ use Rattle.joblist.specs.Fields.{high, ordinary}
 use Rattle.verdict.proofs.OneSlot.{runs_left}
 use Rattle.verdict.proofs.Told.{told_found, told_then}
 use Rattle.verdict.specs.FrameOf.{frame_with}
-use Rattle.verdict.specs.Inner.{Steady, edge_at, square, told}
+use Rattle.verdict.specs.Inner.{Search, Steady, edge_at, square, told}
 use Rattle.verdict.specs.declared.Fault.{Fault}
-use Rattle.verdict.specs.declared.Search.{Search}
-use Rattle.verdict.specs.declared.Search.TheVariants.{Fine, Found}
+use Rattle.std.specs.Prelude.{Ok, Err}
 
 -- one unit more, as the code writes it
 pub more_set : (j : ℕ) (u : List ℕ) → one_more true j u ≡ set u j (units_of u j + 1)
@@ -80,18 +79,18 @@ module _ (s : List ℕ) (n l : ℕ) (lo hi : List ℕ) (b : List Bool) (need : L
     f_at : f ≡ told (fault_at F (units_of need) t (state m q c u))
     f_at = is ∙ ap told (fault_is t m q c u j at)
 
-    pub scan_found : (k : ℕ) (w : Fault) → f ≡ Found w → told (scan F (units_of need) k t (state m q c u)) ≡ Found w
+    pub scan_found : (k : ℕ) (w : Fault) → f ≡ Err w → told (scan F (units_of need) k t (state m q c u)) ≡ Err w
     unfolding scan
     scan_found zero w h = sym f_at ∙ h
     scan_found (suc k) w h =
         told_found (fault_at F (units_of need) t (state m q c u)) (scan F (units_of need) k (suc t) (step F (units_of need) t (state m q c u))) w (sym f_at ∙ h)
 
-    pub scan_last : l ≤ t → f ≡ Fine → told (scan F (units_of need) (l - t) t (state m q c u)) ≡ Fine
+    pub scan_last : l ≤ t → f ≡ Ok tt → told (scan F (units_of need) (l - t) t (state m q c u)) ≡ Ok tt
     unfolding scan
     scan_last h g =
         ap (λ (k : ℕ). told (scan F (units_of need) k t (state m q c u))) (let e : l - t ≡ 0 = omega arith in e) ∙ sym f_at ∙ g
 
-    pub scan_next : t < l → f ≡ Fine → m ≤ 1 → Steady s n m need
+    pub scan_next : t < l → f ≡ Ok tt → m ≤ 1 → Steady s n m need
         → scan F (units_of need) (l - t) t (state m q c u) ≡ scan F (units_of need) (l - (t + 1)) (t + 1) (state m m c (one_more (runs (square s n b) (units_of need) t m u j) j u))
     unfolding scan
     scan_next h g small steady =

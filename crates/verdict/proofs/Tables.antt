@@ -8,6 +8,7 @@ use native.Mathlib.Omega.{arith}
 use borrow.Author.Tests.{eq-eqb, le-ltb, lt-ltb, ne_eqb}
 use lib.Dec.{eqb, ltb}
 use lib.ListN.{length}
+use Rattle.basics.specs.Chain.{◌⨾◌}
 use Rattle.basics.specs.Limits.{Limits, first_edition}
 use Rattle.basics.specs.Marks.{idle}
 use Rattle.frame.proofs.TwoSearch.{two_search}
@@ -18,20 +19,16 @@ use Rattle.joblist.specs.Accepted.{Accepted}
 use Rattle.joblist.specs.Answer.{list_answer}
 use Rattle.joblist.specs.Cycle.{Named}
 use Rattle.joblist.specs.Fields.{edge_in, edges, jobs, list_bytes, slots}
-use Rattle.joblist.specs.declared.ListAnswer.TheVariants.{Good}
 use Rattle.basics.proofs.Find.{find_start, find_from}
 use Rattle.verdict.proofs.Find.{first_none, first_some}
 use Rattle.verdict.proofs.WellFormed.{well_formed}
-use Rattle.verdict.specs.Answer.{◌⨾◌, entry_answer, fault_of, odd_entry, search_answer, switch_of, tables_answer}
+use Rattle.verdict.specs.Answer.{Verdict, entry_answer, odd_entry, search_answer, tables_answer}
 use Rattle.verdict.specs.Count.{entry_at}
 use Rattle.verdict.specs.FrameOf.{frame_of, frame_with}
-use Rattle.verdict.specs.Inner.{Rising, first_of, told}
-use Rattle.verdict.specs.declared.Fault.{Fault}
-use Rattle.verdict.specs.declared.First.TheVariants.{At, Nothing}
+use Rattle.verdict.specs.Inner.{Rising, Search, first_of, told}
+use Rattle.std.specs.Prelude.{Some, None, Ok, Err, MatchResult, IsErrAnd}
+use Rattle.std.proofs.lemmas.Result.{err_from_is_err_and}
 use Rattle.verdict.specs.declared.Objection.TheVariants.{Bad, Entry, Size}
-use Rattle.verdict.specs.declared.Search.{Search}
-use Rattle.verdict.specs.declared.Search.TheVariants.{Fine, Found}
-use Rattle.verdict.specs.declared.Verdict.TheVariants.{No, Yes}
 
 -- the test of an entry
 abbrev pub odd_test : List ℕ → ℕ → ℕ → Bool
@@ -52,14 +49,27 @@ module _ (j n : ℕ) where
 pub odd_at : (table : List ℕ) (n t x : ℕ) → x ≡ entry_at table t → odd_test table n t ≡ not (ltb x n || eqb x idle)
 odd_at table n t x e = ap (λ (y : ℕ). not (ltb y n || eqb y idle)) (sym e)
 
+-- what a search answers, as the check's answer
+abbrev pub bad_of : Search → Verdict
+bad_of (Ok u) = Ok tt
+bad_of (Err f) = Err (Bad f)
+
+bad_told : (a : Finding) → bad_of (told a) ≡ search_answer a
+bad_told nothing = refl
+bad_told (found f) = refl
+
+pub bad_is : (r : Search) (v : Verdict) → MatchResult r (λ x. v ≡ Ok x) (λ f. IsErrAnd v (λ w. w ≡ Bad f)) → v ≡ bad_of r
+bad_is (Ok u) v h = h
+bad_is (Err f) v h = let p = err_from_is_err_and v h in p.1 ∙ ap Err p.2
+
 -- the answers in their order, with the head's numbers as the code has read them
 module _ (s lo hi : List ℕ) (n m l : ℕ) (pn : n ≡ jobs s) (pm : m ≡ edges s) (pl : l ≡ slots s) where
-  pub size_lo : ¬ (length lo ≡ l) → No Size ≡ tables_answer s lo hi
+  pub size_lo : ¬ (length lo ≡ l) → Err Size ≡ tables_answer s lo hi
   unfolding tables_answer
   size_lo h = sym (rw (ne_eqb (length lo) (slots s) (λ z. h (z ∙ sym pl))))
 
   module _ (a : length lo ≡ l) where
-    pub size_hi : ¬ (length hi ≡ l) → No Size ≡ tables_answer s lo hi
+    pub size_hi : ¬ (length hi ≡ l) → Err Size ≡ tables_answer s lo hi
     unfolding tables_answer
     size_hi h = sym (rw (eq-eqb (length lo) (slots s) (a ∙ pl), ne_eqb (length hi) (slots s) (λ z. h (z ∙ sym pl))))
 
@@ -68,14 +78,14 @@ module _ (s lo hi : List ℕ) (n m l : ℕ) (pn : n ≡ jobs s) (pm : m ≡ edge
       unfolding tables_answer
       sized = rw (eq-eqb (length lo) (slots s) (a ∙ pl), eq-eqb (length hi) (slots s) (b ∙ pl), pn)
 
-      pub entry_lo : (t : ℕ) → first_of (odd_entry lo n) ≡ At t → No (Entry t) ≡ tables_answer s lo hi
+      pub entry_lo : (t : ℕ) → first_of (odd_entry lo n) ≡ Some t → Err (Entry t) ≡ tables_answer s lo hi
       entry_lo t h = sym (sized ∙ rw (first_some (odd_entry lo n) t h))
 
-      module _ (none-lo : first_of (odd_entry lo n) ≡ Nothing) where
-        pub entry_hi : (t : ℕ) → first_of (odd_entry hi n) ≡ At t → No (Entry t) ≡ tables_answer s lo hi
+      module _ (none-lo : first_of (odd_entry lo n) ≡ None) where
+        pub entry_hi : (t : ℕ) → first_of (odd_entry hi n) ≡ Some t → Err (Entry t) ≡ tables_answer s lo hi
         entry_hi t h = sym (sized ∙ rw (first_none (odd_entry lo n) none-lo, first_some (odd_entry hi n) t h))
 
-        module _ (none-hi : first_of (odd_entry hi n) ≡ Nothing) (lim : Limits) (good : list_answer lim s ≡ Good) (r : Search)
+        module _ (none-hi : first_of (odd_entry hi n) ≡ None) (lim : Limits) (good : list_answer lim s ≡ Ok tt) (r : Search)
             (is : r ≡ told (search_two (frame_with s n l lo hi (edge_in s n m)))) where
           searched : r ≡ told (first_fault (frame_of s lo hi))
           searched =
@@ -85,19 +95,8 @@ module _ (s lo hi : List ℕ) (n m l : ℕ) (pn : n ≡ jobs s) (pm : m ≡ edge
           whole : tables_answer s lo hi ≡ search_answer (first_fault (frame_of s lo hi))
           whole = sized ∙ rw (first_none (odd_entry lo n) none-lo, first_none (odd_entry hi n) none-hi)
 
-          yes_is : (a : Finding) → told a ≡ Fine → Yes ≡ search_answer a
-          yes_is nothing h = refl
-          yes_is (found f) h = let z : ◌≡◌ {A = ℕ} 0 1 = cc in absurd (omega arith)
-
-          no_is : (a : Finding) (f : Fault) → told a ≡ Found f → No (Bad f) ≡ search_answer a
-          no_is nothing f h = let z : ◌≡◌ {A = ℕ} 0 1 = cc in absurd (omega arith)
-          no_is (found g) f h = let z : fault_of g.slot (switch_of g.chain) g.kind ≡ f = cc in ap (λ (x : Fault). No (Bad x)) (sym z)
-
-          pub says_yes : r ≡ Fine → Yes ≡ tables_answer s lo hi
-          says_yes h = yes_is (first_fault (frame_of s lo hi)) (sym searched ∙ h) ∙ sym whole
-
-          pub says_no : (f : Fault) → r ≡ Found f → No (Bad f) ≡ tables_answer s lo hi
-          says_no f h = no_is (first_fault (frame_of s lo hi)) f (sym searched ∙ h) ∙ sym whole
+          pub says : bad_of r ≡ tables_answer s lo hi
+          says = ap bad_of searched ∙ bad_told (first_fault (frame_of s lo hi)) ∙ sym whole
 
   -- what the search requires of an accepted list and tables of its length
   abbrev pub Searchable : Type 0

@@ -14,21 +14,20 @@ use Rattle.frame.specs.Execution.{State, state, waits_for}
 use Rattle.frame.specs.Search.{Finding, before_if, early_if, fault_of, found, late_if, late_job, nothing, or_else, owed}
 use Rattle.joblist.specs.Fields.{arrival}
 use Rattle.verdict.specs.Answer.{switch_of}
-use Rattle.verdict.specs.Inner.{chain_of, late_told, named_told, square, told}
+use Rattle.verdict.specs.Inner.{Search, chain_of, late_told, named_told, square, told}
 use Rattle.verdict.specs.declared.Fault.{Fault}
 use Rattle.verdict.specs.declared.Fault.TheVariants.{Before, Early, Late}
-use Rattle.verdict.specs.declared.Search.{Search}
-use Rattle.verdict.specs.declared.Search.TheVariants.{Fine, Found}
+use Rattle.std.specs.Prelude.{Ok, Err}
 
-pub told_fine : (a : Finding) → told a ≡ Fine → a ≡ nothing
+pub told_fine : (a : Finding) → told a ≡ Ok tt → a ≡ nothing
 told_fine nothing h = refl
 told_fine (found f) h = let z : ◌≡◌ {A = ℕ} 0 1 = cc in absurd (omega arith)
 
-pub told_found : (a r : Finding) (w : Fault) → told a ≡ Found w → told (or_else a r) ≡ Found w
+pub told_found : (a r : Finding) (w : Fault) → told a ≡ Err w → told (or_else a r) ≡ Err w
 told_found nothing r w h = let z : ◌≡◌ {A = ℕ} 0 1 = cc in absurd (omega arith)
 told_found (found f) r w h = h
 
-pub told_then : (a r : Finding) → told a ≡ Fine → or_else a r ≡ r
+pub told_then : (a r : Finding) → told a ≡ Ok tt → or_else a r ≡ r
 told_then a r h = ap (λ (x : Finding). or_else x r) (told_fine a h)
 
 -- a switch slot is the one of its chain
@@ -42,15 +41,15 @@ switch_chain x = go (eqb x no_switch) refl
 pub chain_at : (t : ℕ) → t < no_switch → t ∷ [] ≡ chain_of t
 chain_at t h = sym (ap (λ (x : Bool). cond x [] (t ∷ [])) (ne_eqb t no_switch (omega arith)))
 
--- the first that is not Fine
+-- the first that is a fault
 abbrev pub then_search : Search → Search → Search
-then_search Fine r = r
-then_search (Found f) r = Found f
+then_search (Ok u) r = r
+then_search (Err f) r = Err f
 
-pub then_fine : (a r : Search) → a ≡ Fine → then_search a r ≡ r
+pub then_fine : (a r : Search) → a ≡ Ok tt → then_search a r ≡ r
 then_fine a r p = ap (λ (z : Search). then_search z r) p
 
-pub then_found : (a r : Search) (f : Fault) → a ≡ Found f → then_search a r ≡ Found f
+pub then_found : (a r : Search) (f : Fault) → a ≡ Err f → then_search a r ≡ Err f
 then_found a r f p = ap (λ (z : Search). then_search z r) p
 
 -- late before what the named job shows
@@ -67,8 +66,8 @@ fault_told s n b need t mode q x had j =
 
     go : (o : Option ℕ) (w p : Bool) (o' : Option ℕ) → told (or_else (late_if t z o) (or_else (early_if t z j (w && p)) (before_if t z j w o')))
         ≡ then_search (late_told t x o) (named_told w p t j x o')
-    go (some i) w p o' = ap (λ (y : ℕ). Found (Late t i y)) (switch_chain x)
+    go (some i) w p o' = ap (λ (y : ℕ). Err (Late t i y)) (switch_chain x)
     go none false p o' = refl
-    go none true true o' = ap (λ (y : ℕ). Found (Early t j y)) (switch_chain x)
+    go none true true o' = ap (λ (y : ℕ). Err (Early t j y)) (switch_chain x)
     go none true false none = refl
-    go none true false (some k) = ap (λ (y : ℕ). Found (Before t j k y)) (switch_chain x)
+    go none true false (some k) = ap (λ (y : ℕ). Err (Before t j k y)) (switch_chain x)

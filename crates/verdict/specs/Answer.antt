@@ -1,14 +1,14 @@
 -- What the check answers: the list's rows, 43 for a table not of L bytes, 45, then the search.
 -- Assumes nothing.
-use Rattle.std.specs.Prelude.{ℕ, List, [], ◌∷◌, Bool, cond, not, ◌||◌, length, get_or, eqb, ltb}
+use Rattle.std.specs.Prelude.{ℕ, List, [], ◌∷◌, not, ◌||◌, length, get_or, eqb, ltb, Result, Ok, Err}
 use Rattle.std.proofs.Math.Option.{Option, some, none}
+use Rattle.basics.specs.Chain.{◌⨾◌, need}
 use Rattle.basics.specs.Find.{find}
 use Rattle.basics.specs.Limits.{Limits}
 use Rattle.basics.specs.Marks.{idle, no_switch}
 use Rattle.joblist.specs.Fields.{jobs, slots}
 use Rattle.joblist.specs.Answer.{list_answer}
-use Rattle.joblist.specs.declared.ListAnswer.{ListAnswer}
-use Rattle.joblist.specs.declared.ListAnswer.TheVariants.{Good, No as NoList}
+use Rattle.joblist.specs.declared.Why.{Why}
 use Rattle.frame.specs.Execution.{Badness, late, early, before}
 use Rattle.frame.specs.Search.{Finding, nothing, found, first_fault}
 use Rattle.verdict.specs.FrameOf.{frame_of}
@@ -16,23 +16,15 @@ use Rattle.verdict.specs.declared.Fault.{Fault}
 use Rattle.verdict.specs.declared.Fault.TheVariants.{Late, Early, Before}
 use Rattle.verdict.specs.declared.Objection.{Objection}
 use Rattle.verdict.specs.declared.Objection.TheVariants.{OfList, Size, Entry, Bad}
-use Rattle.verdict.specs.declared.Verdict.{Verdict}
-use Rattle.verdict.specs.declared.Verdict.TheVariants.{Yes, No}
 
-infixr 20 ◌⨾◌
--- the first answer, unless it is yes
-abbrev pub ◌⨾◌ : Verdict → Verdict → Verdict
-Yes ⨾ r = r
-No w ⨾ r = No w
-
--- yes where the test holds, and otherwise the objection
-abbrev pub need : Bool → Objection → Verdict
-need b w = cond b Yes (No w)
+-- yes, or what the check objects to
+abbrev pub Verdict : Type 0
+Verdict = Result Unit Objection
 
 -- the list's answer, as the check's
-abbrev pub of_list : ListAnswer → Verdict
-of_list Good = Yes
-of_list (NoList w) = No (OfList w)
+abbrev pub of_list : Result Unit Why → Verdict
+of_list (Ok u) = Ok tt
+of_list (Err w) = Err (OfList w)
 
 -- the first entry that is neither idle nor a job
 unfoldable pub odd_entry : List ℕ → ℕ → Option ℕ
@@ -40,8 +32,8 @@ odd_entry table n = find (λ t. not (ltb (get_or table t idle) n || eqb (get_or 
 
 -- 45, with that entry's slot
 abbrev pub entry_answer : Option ℕ → Verdict
-entry_answer none = Yes
-entry_answer (some t) = No (Entry t)
+entry_answer none = Ok tt
+entry_answer (some t) = Err (Entry t)
 
 -- the switch slot of a chain of at most one
 abbrev pub switch_of : List ℕ → ℕ
@@ -56,8 +48,8 @@ fault_of t x (before j p) = Before t j p x
 
 -- 10, 11, 12: what the search finds
 abbrev pub search_answer : Finding → Verdict
-search_answer nothing = Yes
-search_answer (found f) = No (Bad (fault_of f.slot (switch_of f.chain) f.kind))
+search_answer nothing = Ok tt
+search_answer (found f) = Err (Bad (fault_of f.slot (switch_of f.chain) f.kind))
 
 -- the two tables of a good list
 unfoldable pub tables_answer : List ℕ → List ℕ → List ℕ → Verdict

@@ -1,18 +1,16 @@
 -- Demand 3 on bytes, as a statement: what the check's answer means by executions alone. Read this file first.
 -- Assumes nothing.
-use Rattle.std.specs.Prelude.{ℕ, ◌<◌, ◌≡◌, ◌⊎◌, ◌↔◌, List, length, get_or}
+use Rattle.std.specs.Prelude.{ℕ, ◌<◌, ◌≡◌, ◌⊎◌, ◌↔◌, List, length, get_or, Ok, Err}
 use Rattle.basics.specs.Limits.{Limits}
 use Rattle.basics.specs.Marks.{idle}
 use Rattle.joblist.specs.Fields.{jobs, slots}
 use Rattle.joblist.specs.Answer.{list_answer}
-use Rattle.joblist.specs.declared.ListAnswer.TheVariants.{Good}
 use Rattle.frame.specs.Demand.{EveryExecutionGood, Real}
 use Rattle.frame.specs.Search.{Fault as Found}
 use Rattle.verdict.specs.FrameOf.{frame_of}
 use Rattle.verdict.specs.Answer.{check_of, switch_of, fault_of}
 use Rattle.verdict.specs.declared.Fault.{Fault}
 use Rattle.verdict.specs.declared.Objection.TheVariants.{Bad}
-use Rattle.verdict.specs.declared.Verdict.TheVariants.{Yes, No}
 
 -- a table of L bytes, each of them a job or idle
 pub record GoodTable (s table : List ℕ) : Type 0 where
@@ -21,7 +19,7 @@ pub record GoodTable (s table : List ℕ) : Type 0 where
 
 -- well_formed input, whoever drew the tables
 pub record Input (lim : Limits) (s lo hi : List ℕ) : Type 0 where
-  pub list : list_answer lim s ≡ Good
+  pub list : list_answer lim s ≡ Ok tt
   pub low : GoodTable s lo
   pub high : GoodTable s hi
 
@@ -33,6 +31,6 @@ pub record RealFault (s lo hi : List ℕ) (f : Fault) : Type 0 where
 
 -- yes exactly when every execution is good; a no names a slot where a real execution goes wrong; and there is no third answer
 pub record Demand3 (lim : Limits) (s lo hi : List ℕ) : Type 0 where
-  pub yes_iff : (check_of lim s lo hi ≡ Yes) ↔ EveryExecutionGood (frame_of s lo hi)
-  pub no_real : (f : Fault) → check_of lim s lo hi ≡ No (Bad f) → RealFault s lo hi f
-  pub judged : (check_of lim s lo hi ≡ Yes) ⊎ ((f : Fault) × (check_of lim s lo hi ≡ No (Bad f)))
+  pub yes_iff : (check_of lim s lo hi ≡ Ok tt) ↔ EveryExecutionGood (frame_of s lo hi)
+  pub no_real : (f : Fault) → check_of lim s lo hi ≡ Err (Bad f) → RealFault s lo hi f
+  pub judged : (check_of lim s lo hi ≡ Ok tt) ⊎ ((f : Fault) × (check_of lim s lo hi ≡ Err (Bad f)))

@@ -1,6 +1,6 @@
 -- What the check's inner functions are said to compute. Nobody has to believe this file: `check_of` cites none of it.
 -- Assumes nothing.
-use Rattle.std.specs.Prelude.{ℕ, ◌+◌, ◌*◌, ◌<◌, ◌≤◌, ◌≡◌, List, [], ◌∷◌, Bool, false, cond, ◌&&◌, get_or, eqb, ltb}
+use Rattle.std.specs.Prelude.{ℕ, ◌+◌, ◌*◌, ◌<◌, ◌≤◌, ◌≡◌, List, [], ◌∷◌, Bool, false, cond, ◌&&◌, get_or, eqb, ltb, Option as First, Some, None, Result, Ok, Err}
 use Rattle.std.proofs.Math.Option.{Option, some, none}
 use Rattle.basics.specs.Limits.{first_edition}
 use Rattle.basics.specs.Marks.{no_switch}
@@ -10,38 +10,40 @@ use Rattle.frame.specs.Search.{Finding, nothing, found}
 use Rattle.verdict.specs.Count.{entries_in}
 use Rattle.verdict.specs.FrameOf.{frame_with}
 use Rattle.verdict.specs.Answer.{switch_of, fault_of}
+use Rattle.verdict.specs.declared.Fault.{Fault}
 use Rattle.verdict.specs.declared.Fault.TheVariants.{Late, Early, Before}
-use Rattle.verdict.specs.declared.Search.{Search}
-use Rattle.verdict.specs.declared.Search.TheVariants.{Fine, Found}
-use Rattle.verdict.specs.declared.First.{First}
-use Rattle.verdict.specs.declared.First.TheVariants.{At, Nothing}
+
+-- what a search answers: nothing, or the first fault
+abbrev pub Search : Type 0
+Search = Result Unit Fault
 
 -- what the search finds, as the code says it
 abbrev pub told : Finding → Search
-told nothing = Fine
-told (found f) = Found (fault_of f.slot (switch_of f.chain) f.kind)
+told nothing = Ok tt
+told (found f) = Err (fault_of f.slot (switch_of f.chain) f.kind)
 
 -- the chain of a switch slot, none where it is the mark
 abbrev pub chain_of : ℕ → List ℕ
 chain_of x = cond (eqb x no_switch) [] (x ∷ [])
 
-abbrev pub first_of : Option ℕ → First
-first_of none = Nothing
-first_of (some i) = At i
+-- what is found first, as the code says it
+abbrev pub first_of : Option ℕ → First ℕ
+first_of none = None
+first_of (some i) = Some i
 
 -- late, where a job is
 abbrev pub late_told : ℕ → ℕ → Option ℕ → Search
-late_told t x none = Fine
-late_told t x (some j) = Found (Late t j x)
+late_told t x none = Ok tt
+late_told t x (some j) = Err (Late t j x)
 
 -- before a predecessor, where there is one
 abbrev pub before_told : ℕ → ℕ → ℕ → Option ℕ → Search
-before_told t j x none = Fine
-before_told t j x (some p) = Found (Before t j p x)
+before_told t j x none = Ok tt
+before_told t j x (some p) = Err (Before t j p x)
 
 -- the named job j: owed its slot, and too early, or before a predecessor
 unfoldable pub named_told : Bool → Bool → ℕ → ℕ → ℕ → Option ℕ → Search
-named_told owed soon t j x o = cond owed (cond soon (Found (Early t j x)) (before_told t j x o)) Fine
+named_told owed soon t j x o = cond owed (cond soon (Err (Early t j x)) (before_told t j x o)) (Ok tt)
 
 -- edges as a square of bits: in the row of q whether p comes before it
 abbrev pub pair_at : ℕ → ℕ → ℕ

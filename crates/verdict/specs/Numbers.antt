@@ -1,16 +1,15 @@
 -- The paper's number and place of each answer of the check.
 -- Assumes nothing.
-use Rattle.std.specs.Prelude.{ℕ}
+use Rattle.std.specs.Prelude.{ℕ, Ok, Err}
 use Rattle.joblist.specs.Numbers.{number_of as list_number, place_of as list_place}
 use Rattle.joblist.specs.declared.Place.TheVariants.{Nowhere}
+use Rattle.verdict.specs.Answer.{Verdict}
 use Rattle.verdict.specs.declared.Fault.{Fault}
 use Rattle.verdict.specs.declared.Fault.TheVariants.{Late, Early, Before}
 use Rattle.verdict.specs.declared.Objection.{Objection}
 use Rattle.verdict.specs.declared.Objection.TheVariants.{OfList, Size, Entry, Bad}
 use Rattle.verdict.specs.declared.Spot.{Spot}
 use Rattle.verdict.specs.declared.Spot.TheVariants.{InList, AtSlot, AtFault}
-use Rattle.verdict.specs.declared.Verdict.{Verdict}
-use Rattle.verdict.specs.declared.Verdict.TheVariants.{Yes, No}
 
 -- late, too early, before a predecessor
 abbrev pub fault_number : Fault → ℕ
@@ -34,5 +33,5 @@ place_of (Bad f) = AtFault f
 
 -- the number of an answer: 0 for yes
 abbrev pub answer_number : Verdict → ℕ
-answer_number Yes = 0
-answer_number (No w) = number_of w
+answer_number (Ok u) = 0
+answer_number (Err w) = number_of w

@@ -13,7 +13,7 @@ ghost use Rattle.verdict.specs.Inner.{told, chain_of, edge_at, square, switches_
 
 use crate::count::{entries_so_far, entry_at, lower, move_on};
 use crate::slot::{fault_at, runs_at};
-use crate::{PAIRS, Search, Verdict};
+use crate::{Fault, PAIRS};
 use joblist::{MOST_JOBS, edge_from, edge_to, high_of, level_of, ordinary_of};
 
 // The job that the mode's table names in slot t, or idle.
@@ -47,21 +47,21 @@ fn scan_from(
     l: usize,
     from: usize,
     x: usize,
-) -> Search
+) -> Result<(), Fault>
     requires { (n ≤ first_edition.jobs) × (job_at n ≤ length list.now) × (from ≤ l) × (l ≤ first_edition.slots) × (mode ≤ 1) × Steady list.now n mode need.now }
     ensures { result ≡ told (scan (frame_with list.now n l lo.now hi.now (edge_at before.now)) (units_of need.now) (l - from) from (state mode 0 (chain_of x) units)) }
 {
     let mut had = units;
     let mut t = from;
     let mut q: usize = 0;
-    loop {
+    'slots: loop {
         let j = named_at(lo, hi, mode, t);
         let f = fault_at(list, n, before, &had, need, t, mode, q, j, x);
-        let Search::Fine = f else {
-            break f;
-        };
+        if let Err(w) = f {
+            break Err(w);
+        }
         if l <= t {
-            break Search::Fine;
+            break Ok(());
         }
         if runs_at(list, n, before, &had, need, t, mode, j) {
             had[j] = one_more(had[j], need[j]);
@@ -159,15 +159,15 @@ fn switches_from(
     lo: &[u8],
     hi: &[u8],
     l: usize,
-) -> Search
+) -> Result<(), Fault>
     requires { (n ≤ first_edition.jobs) × (job_at n ≤ length list.now) × (l ≤ first_edition.slots) × (l ≤ length lo.now) × Rising list.now n }
     ensures { result ≡ told (each_switch (frame_with list.now n l lo.now hi.now (edge_at before.now)) l 0 (replicate n 0)) }
 {
     let mut counts = [0usize; MOST_JOBS];
     let mut t: usize = 0;
-    loop {
+    'switches: loop {
         if l <= t {
-            break Search::Fine;
+            break Ok(());
         }
         let j = entry_at(lo, t);
         move_on(&mut counts, lo, t);
@@ -175,9 +175,9 @@ fn switches_from(
             let had = units_before(list, n, lo, &counts, t + 1);
             let need = needs_after(list, n, &had, j);
             let f = scan_from(list, n, before, lo, hi, had, &need, 1, l, t + 1, t);
-            let Search::Fine = f else {
-                break f;
-            };
+            if let Err(w) = f {
+                break Err(w);
+            }
         }
         t += 1;
     }
@@ -205,14 +205,14 @@ pub(crate) fn search_tables(
     l: usize,
     lo: &[u8],
     hi: &[u8],
-) -> Search
+) -> Result<(), Fault>
     requires { (n ≤ first_edition.jobs) × (l ≤ first_edition.slots) × (l ≤ length lo.now) × (list_bytes n m ≤ length list.now) × Named list.now n m × Rising list.now n }
     ensures { result ≡ told (search_two (frame_with list.now n l lo.now hi.now (edge_in list.now n m))) }
 {
     let before = square_of(list, n, m);
     let need = needs_at_first(list, n);
     let none = [0usize; MOST_JOBS];
-    let v = scan_from(
+    scan_from(
         list,
         n,
         &before,
@@ -223,10 +223,7 @@ pub(crate) fn search_tables(
         0,
         l,
         0,
-        Verdict::NO_SWITCH,
-    );
-    let Search::Fine = v else {
-        return v;
-    };
+        Fault::NO_SWITCH,
+    )?;
     switches_from(list, n, &before, lo, hi, l)
 }

@@ -29,6 +29,11 @@ pub enum Fault {
     Before(usize, usize, usize, usize),
 }
 
+impl Fault {
+    // The switch slot of a fault before which no switch was made.
+    pub const NO_SWITCH: usize = 65535;
+}
+
 // Why the check says no: the list is refused, a table is not of L bytes, an entry names no job, or an execution goes wrong.
 #[derive(Clone, Copy)]
 pub enum Objection {
@@ -38,15 +43,17 @@ pub enum Objection {
     Bad(Fault),
 }
 
-#[derive(Clone, Copy)]
-pub enum Verdict {
-    Yes,
-    No(Objection),
-}
+// The check's answer: yes, or what it objects to.
+pub type Verdict = Result<(), Objection>;
 
-impl Verdict {
-    // The switch slot of a fault before which no switch was made.
-    pub const NO_SWITCH: usize = 65535;
+impl From<Why> for Objection {
+    ghost use Rattle.verdict.specs.declared.Objection.TheVariants.{OfList};
+
+    ghost from_gives = { λ w o. o ≡ OfList w };
+
+    fn from(w: Why) -> Objection {
+        Objection::OfList(w)
+    }
 }
 
 // Where the check says no.
@@ -55,20 +62,6 @@ pub enum Spot {
     InList(Place),
     AtSlot(usize),
     AtFault(Fault),
-}
-
-// What a search finds.
-#[derive(Clone, Copy)]
-pub enum Search {
-    Fine,
-    Found(Fault),
-}
-
-// The first that passes a test.
-#[derive(Clone, Copy)]
-pub enum First {
-    At(usize),
-    Nothing,
 }
 
 // The paper's number of a fault.
@@ -111,8 +104,8 @@ pub fn answer_number(v: Verdict) -> usize
     ensures { result ≡ answer_number v }
 {
     match v {
-        Verdict::Yes => 0,
-        Verdict::No(w) => number_of(w),
+        Ok(()) => 0,
+        Err(w) => number_of(w),
     }
 }
 
@@ -127,16 +120,16 @@ fn is_odd(j: usize, n: usize) -> bool
 }
 
 // The first entry of a table that is neither idle nor a job.
-fn first_odd(table: &[u8], n: usize) -> First
+fn first_odd(table: &[u8], n: usize) -> Option<usize>
     ensures { result ≡ first_of (odd_entry table.now n) }
 {
     let mut t: usize = 0;
     loop {
         if table.len() <= t {
-            break First::Nothing;
+            break None;
         }
         if is_odd(count::entry_at(table, t), n) {
-            break First::At(t);
+            break Some(t);
         }
         t += 1;
     }
@@ -151,21 +144,18 @@ fn check_tables(list: &[u8], lo: &[u8], hi: &[u8]) -> Verdict
     let m = joblist::edges_of(list);
     let l = joblist::slots_of(list);
     if lo.len() != l {
-        return Verdict::No(Objection::Size);
+        return Err(Objection::Size);
     }
     if hi.len() != l {
-        return Verdict::No(Objection::Size);
+        return Err(Objection::Size);
     }
-    if let First::At(t) = first_odd(lo, n) {
-        return Verdict::No(Objection::Entry(t));
+    if let Some(t) = first_odd(lo, n) {
+        return Err(Objection::Entry(t));
     }
-    if let First::At(t) = first_odd(hi, n) {
-        return Verdict::No(Objection::Entry(t));
+    if let Some(t) = first_odd(hi, n) {
+        return Err(Objection::Entry(t));
     }
-    match faults::search_tables(list, n, m, l, lo, hi) {
-        Search::Fine => Verdict::Yes,
-        Search::Found(f) => Verdict::No(Objection::Bad(f)),
-    }
+    faults::search_tables(list, n, m, l, lo, hi).map_err(Objection::Bad)
 }
 
 // The check of a list and two tables.
@@ -173,8 +163,6 @@ fn check_tables(list: &[u8], lo: &[u8], hi: &[u8]) -> Verdict
 pub fn check(list: &[u8], lo: &[u8], hi: &[u8]) -> Verdict
     ensures { result ≡ check_of first_edition list.now lo.now hi.now }
 {
-    match joblist::check_list(list) {
-        Ok(()) => check_tables(list, lo, hi),
-        Err(w) => Verdict::No(Objection::OfList(w)),
-    }
+    joblist::check_list(list)?;
+    check_tables(list, lo, hi)
 }

@@ -8,7 +8,7 @@ ghost use Rattle.frame.specs.Execution.{state, runs, waits_for};
 ghost use Rattle.frame.specs.Search.{late_job, owed, fault_of};
 ghost use Rattle.verdict.specs.Inner.{square, chain_of, told, first_of, late_told, named_told};
 
-use crate::{Fault, First, PAIRS, Search};
+use crate::{Fault, PAIRS};
 use joblist::{MOST_JOBS, arrival_of, deadline_of, level_of};
 
 // Whether job i has its deadline at t, counts and is unfinished.
@@ -34,17 +34,17 @@ fn late_at(
     t: usize,
     q: usize,
     x: usize,
-) -> Search
+) -> Result<(), Fault>
     requires { (n ≤ first_edition.jobs) × (job_at n ≤ length list.now) }
     ensures { result ≡ late_told t x (late_job (square list.now n []) (units_of need.now) t q had.now) }
 {
     let mut i: usize = 0;
     loop {
         if n <= i {
-            break Search::Fine;
+            break Ok(());
         }
         if is_late(list, i, had[i], need[i], t, q) {
-            break Search::Found(Fault::Late(t, i, x));
+            break Err(Fault::Late(t, i, x));
         }
         i += 1;
     }
@@ -67,17 +67,17 @@ fn waits_for(
     had: &[usize; MOST_JOBS],
     need: &[usize; MOST_JOBS],
     j: usize,
-) -> First
+) -> Option<usize>
     requires { (n ≤ first_edition.jobs) × (j < first_edition.jobs) }
     ensures { result ≡ first_of (waits_for (square [] n before.now) (units_of need.now) had.now j) }
 {
     let mut p: usize = 0;
     loop {
         if n <= p {
-            break First::Nothing;
+            break None;
         }
         if is_open(before[MOST_JOBS * j + p], had[p], need[p]) {
-            break First::At(p);
+            break Some(p);
         }
         p += 1;
     }
@@ -95,26 +95,26 @@ fn named_fault(
     mode: usize,
     j: usize,
     x: usize,
-) -> Search
+) -> Result<(), Fault>
     requires { (n ≤ first_edition.jobs) × (job_at n ≤ length list.now) }
     ensures { result ≡ named_told (owed (square list.now n []) (units_of need.now) mode had.now j) (ltb t (arrival list.now j)) t j x (waits_for (square [] n before.now) (units_of need.now) had.now j) }
 {
     if n <= j {
-        return Search::Fine;
+        return Ok(());
     }
     if level_of(list, j) < mode {
-        return Search::Fine;
+        return Ok(());
     }
     if need[j] <= had[j] {
-        return Search::Fine;
+        return Ok(());
     }
     if t < arrival_of(list, j) {
-        return Search::Found(Fault::Early(t, j, x));
+        return Err(Fault::Early(t, j, x));
     }
-    let First::At(p) = waits_for(n, before, had, need, j) else {
-        return Search::Fine;
+    let Some(p) = waits_for(n, before, had, need, j) else {
+        return Ok(());
     };
-    Search::Found(Fault::Before(t, j, p, x))
+    Err(Fault::Before(t, j, p, x))
 }
 
 // The first fault at the opening of slot t, where j is named.
@@ -129,14 +129,11 @@ pub(crate) fn fault_at(
     q: usize,
     j: usize,
     x: usize,
-) -> Search
+) -> Result<(), Fault>
     requires { (n ≤ first_edition.jobs) × (job_at n ≤ length list.now) }
     ensures { result ≡ told (fault_of (square list.now n before.now) (units_of need.now) t (state mode q (chain_of x) had.now) j) }
 {
-    let v = late_at(list, n, had, need, t, q, x);
-    let Search::Fine = v else {
-        return v;
-    };
+    late_at(list, n, had, need, t, q, x)?;
     named_fault(list, n, before, had, need, t, mode, j, x)
 }
 
@@ -170,8 +167,5 @@ pub(crate) fn runs_at(
     if deadline_of(list, j) <= t {
         return false;
     }
-    let First::Nothing = waits_for(n, before, had, need, j) else {
-        return false;
-    };
-    true
+    waits_for(n, before, had, need, j).is_none()
 }

@@ -6,7 +6,7 @@ ghost use Rattle.basics.specs.Limits.{first_edition};
 ghost use Rattle.witness.specs.Needs.{witness_of};
 
 use needs::{Witness, needs_to, no_needs, switch_in};
-use verdict::{Objection, Verdict};
+use verdict::Objection;
 
 pub mod needs;
 
@@ -15,7 +15,7 @@ pub fn witness(list: &[u8], lo: &[u8], hi: &[u8]) -> Witness
     ensures { result ≡ witness_of first_edition list.now lo.now hi.now }
 {
     let v = verdict::check(list, lo, hi);
-    let Verdict::No(w) = v else {
+    let Err(w) = v else {
         return no_needs(v);
     };
     match w {

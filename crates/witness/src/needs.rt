@@ -34,7 +34,7 @@ fn keeps_clo(list: &[u8], lo: &[u8], x: usize, j: usize) -> bool
     requires { (job_at j + job_bytes ≤ length list.now) × (x ≤ no_switch) }
     ensures { result ≡ (eqb x no_switch || ended list.now lo.now x j) }
 {
-    if x == Verdict::NO_SWITCH {
+    if x == Fault::NO_SWITCH {
         return true;
     }
     if j == entry_at(lo, x) {

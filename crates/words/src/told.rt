@@ -4,7 +4,7 @@ use joblist::Place;
 use jobtext::{Names, put_edge};
 use merge::{BuildPlace, BuildWhy};
 use page::Page;
-use verdict::{Fault, Objection, Spot, Verdict};
+use verdict::{Fault, Objection, Spot};
 
 // A refusal: its number and its place.
 #[derive(Clone, Copy)]
@@ -27,8 +27,8 @@ impl From<BuildPlace> for At {
             BuildPlace::InList(q) => At::Spot(Spot::InList(q)),
             BuildPlace::AtJob(t, j) => At::Job(t, j),
             BuildPlace::AtSlot(t) => At::Spot(Spot::AtSlot(t)),
-            BuildPlace::Answer(Verdict::Yes) => At::Spot(Spot::InList(Place::Nowhere)),
-            BuildPlace::Answer(Verdict::No(o)) => At::Checked(o),
+            BuildPlace::Answer(Ok(())) => At::Spot(Spot::InList(Place::Nowhere)),
+            BuildPlace::Answer(Err(o)) => At::Checked(o),
         }
     }
 }
@@ -61,7 +61,7 @@ fn put_slot(page: Page, t: usize) -> Page {
 }
 
 fn put_switch(page: Page, x: usize) -> Page {
-    if x == Verdict::NO_SWITCH {
+    if x == Fault::NO_SWITCH {
         return label(page, b"switch").line(b"none: table LO, with ordinary budgets");
     }
     label(page, b"switch slot").number(x).end()

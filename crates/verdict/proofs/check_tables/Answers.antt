@@ -3,7 +3,7 @@
 use Rattle.std.proofs.Common.{◌∙◌, sym, arith}
 use Rattle.basics.specs.Limits.{first_edition}
 use Rattle.joblist.proofs.Accepted.{accepted}
-use Rattle.verdict.proofs.Tables.{entry_hi, entry_lo, says_no, says_yes, searchable, size_hi, size_lo}
+use Rattle.verdict.proofs.Tables.{entry_hi, bad_is, entry_lo, says, searchable, size_hi, size_lo}
 use Rattle.verdict.proofs.check_tables.Goals as goal
 
 pub jobs_of-n-requires : goal.jobs_of-n-requires
@@ -31,21 +31,21 @@ returns-then-hi-l c =
     let l = c.slots_of-l in
     size_hi a.list.now a.lo.now a.hi.now n.result m.result l.result n.ensures.0 m.ensures.0 l.ensures.0 c.if-lo-l.false c.if-hi-l.true
 
-pub returns-in-At : goal.returns-in-At
-returns-in-At c =
+pub returns-in-Some : goal.returns-in-Some
+returns-in-Some c =
     let a = c.args in
     let n = c.jobs_of-n in
     let m = c.edges_of-m in
     let l = c.slots_of-l in
-    entry_lo a.list.now a.lo.now a.hi.now n.result m.result l.result n.ensures.0 m.ensures.0 l.ensures.0 c.if-lo-l.false c.if-hi-l.false _ (sym c.first_odd.ensures ∙ c.in-At.is)
+    entry_lo a.list.now a.lo.now a.hi.now n.result m.result l.result n.ensures.0 m.ensures.0 l.ensures.0 c.if-lo-l.false c.if-hi-l.false _ (sym c.first_odd.ensures ∙ c.in-Some.is)
 
-pub returns-in-At-first_odd : goal.returns-in-At-first_odd
-returns-in-At-first_odd c =
+pub returns-in-Some-first_odd : goal.returns-in-Some-first_odd
+returns-in-Some-first_odd c =
     let a = c.args in
     let n = c.jobs_of-n in
     let m = c.edges_of-m in
     let l = c.slots_of-l in
-    entry_hi a.list.now a.lo.now a.hi.now n.result m.result l.result n.ensures.0 m.ensures.0 l.ensures.0 c.if-lo-l.false c.if-hi-l.false (sym c.first_odd.ensures ∙ c.in_default.is) _ (sym c.first_odd-2.ensures ∙ c.in-At-first_odd.is)
+    entry_hi a.list.now a.lo.now a.hi.now n.result m.result l.result n.ensures.0 m.ensures.0 l.ensures.0 c.if-lo-l.false c.if-hi-l.false (sym c.first_odd.ensures ∙ c.in_default.is) _ (sym c.first_odd-2.ensures ∙ c.in-Some-first_odd.is)
 
 pub search_tables-requires : goal.search_tables-requires
 search_tables-requires c =
@@ -55,18 +55,11 @@ search_tables-requires c =
     let l = c.slots_of-l in
     searchable a.list.now a.lo.now a.hi.now n.result m.result l.result n.ensures.0 m.ensures.0 l.ensures.0 (accepted first_edition a.list.now c.requires) c.if-lo-l.false
 
-pub returns-in-Fine : goal.returns-in-Fine
-returns-in-Fine c =
+pub returns : goal.returns
+returns c =
     let a = c.args in
     let n = c.jobs_of-n in
     let m = c.edges_of-m in
     let l = c.slots_of-l in
-    says_yes a.list.now a.lo.now a.hi.now n.result m.result l.result n.ensures.0 m.ensures.0 l.ensures.0 c.if-lo-l.false c.if-hi-l.false (sym c.first_odd.ensures ∙ c.in_default.is) (sym c.first_odd-2.ensures ∙ c.in_default-first_odd.is) first_edition c.requires c.search_tables.result c.search_tables.ensures c.in-Fine.is
-
-pub returns-in-Found : goal.returns-in-Found
-returns-in-Found c =
-    let a = c.args in
-    let n = c.jobs_of-n in
-    let m = c.edges_of-m in
-    let l = c.slots_of-l in
-    says_no a.list.now a.lo.now a.hi.now n.result m.result l.result n.ensures.0 m.ensures.0 l.ensures.0 c.if-lo-l.false c.if-hi-l.false (sym c.first_odd.ensures ∙ c.in_default.is) (sym c.first_odd-2.ensures ∙ c.in_default-first_odd.is) first_edition c.requires c.search_tables.result c.search_tables.ensures _ c.in-Found.is
+    bad_is c.search_tables.result c.map_err.result c.map_err.ensures.cases
+    ∙ says a.list.now a.lo.now a.hi.now n.result m.result l.result n.ensures.0 m.ensures.0 l.ensures.0 c.if-lo-l.false c.if-hi-l.false (sym c.first_odd.ensures ∙ c.in_default.is) (sym c.first_odd-2.ensures ∙ c.in_default-first_odd.is) first_edition c.requires c.search_tables.result c.search_tables.ensures

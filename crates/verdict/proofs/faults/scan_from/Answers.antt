@@ -12,13 +12,13 @@ use Rattle.verdict.specs.Inner.{chain_of, edge_at, told}
 use Rattle.verdict.proofs.faults.scan_from.Goals as goal
 use Rattle.verdict.proofs.faults.scan_from.Goals.{then-runs_at, else-runs_at}
 
-pub loop-f-preserved : goal.loop-f-preserved
-loop-f-preserved c =
+pub slots-preserved : goal.slots-preserved
+slots-preserved c =
     let a = c.args in
-    let o = c.loop-f in
+    let o = c.slots in
     let j = c.named_at-j.result in
     let from = scan (frame_with a.list.now a.n a.l a.lo.now a.hi.now (edge_at a.before.now)) (units_of a.need.now) (a.l - (o.t + 1)) (o.t + 1) in
-    let e = o.invariant.2 ∙ scan_next a.list.now a.n a.l a.lo.now a.hi.now a.before.now a.need.now o.t a.mode o.q (chain_of a.x) o.had j c.named_at-j.ensures.0 c.fault_at-f.result c.fault_at-f.ensures c.if-l-t.false c.in-Fine.is (omega arith) c.requires.5 in
+    let e = o.invariant.2 ∙ scan_next a.list.now a.n a.l a.lo.now a.hi.now a.before.now a.need.now o.t a.mode o.q (chain_of a.x) o.had j c.named_at-j.ensures.0 c.fault_at-f.result c.fault_at-f.ensures c.if-l-t.false c.in_default.is (omega arith) c.requires.5 in
     let k : (y : Bool) (v : List ℕ) → c.runs_at.result ≡ y → one_more y j o.had ≡ v
     → scan (frame_with a.list.now a.n a.l a.lo.now a.hi.now (edge_at a.before.now)) (units_of a.need.now) (a.l - a.from) a.from (state a.mode 0 (chain_of a.x) a.units) ≡ from (state a.mode a.mode (chain_of a.x) v) =
     λ y v p r. e ∙ ap (λ (z : List ℕ). from (state a.mode a.mode (chain_of a.x) z)) (ap (λ (z : Bool). one_more z j o.had) (sym c.runs_at.ensures.0 ∙ p) ∙ r) in
@@ -27,15 +27,14 @@ loop-f-preserved c =
       | else-runs_at w ↦ (omega arith, ap length w.had-is ∙ o.invariant.1, k false c.if-runs_at.had w.if-runs_at.false (more_off j o.had ∙ sym w.had-is))
     ]
 
-pub returns-in_default : goal.returns-in_default
-returns-in_default c =
+pub returns-in-Err : goal.returns-in-Err
+returns-in-Err c =
     let a = c.args in
-    let o = c.loop-f in
-    let g = c.in_default.is in
-    g ∙ sym (ap told o.invariant.2 ∙ scan_found a.list.now a.n a.l a.lo.now a.hi.now a.before.now a.need.now o.t a.mode o.q (chain_of a.x) o.had c.named_at-j.result c.named_at-j.ensures.0 c.fault_at-f.result c.fault_at-f.ensures (a.l - o.t) _ g)
+    let o = c.slots in
+    sym (ap told o.invariant.2 ∙ scan_found a.list.now a.n a.l a.lo.now a.hi.now a.before.now a.need.now o.t a.mode o.q (chain_of a.x) o.had c.named_at-j.result c.named_at-j.ensures.0 c.fault_at-f.result c.fault_at-f.ensures (a.l - o.t) _ c.in-Err.is)
 
 pub returns-then-l-t : goal.returns-then-l-t
 returns-then-l-t c =
     let a = c.args in
-    let o = c.loop-f in
-    sym (ap told o.invariant.2 ∙ scan_last a.list.now a.n a.l a.lo.now a.hi.now a.before.now a.need.now o.t a.mode o.q (chain_of a.x) o.had c.named_at-j.result c.named_at-j.ensures.0 c.fault_at-f.result c.fault_at-f.ensures c.if-l-t.true c.in-Fine.is)
+    let o = c.slots in
+    sym (ap told o.invariant.2 ∙ scan_last a.list.now a.n a.l a.lo.now a.hi.now a.before.now a.need.now o.t a.mode o.q (chain_of a.x) o.had c.named_at-j.result c.named_at-j.ensures.0 c.fault_at-f.result c.fault_at-f.ensures c.if-l-t.true c.in_default.is)

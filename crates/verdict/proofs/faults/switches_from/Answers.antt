@@ -12,24 +12,24 @@ use Rattle.verdict.proofs.Told.{told_found, told_then}
 use Rattle.verdict.specs.FrameOf.{frame_with}
 use Rattle.verdict.specs.Inner.{chain_of, edge_at, told}
 use Rattle.verdict.proofs.faults.switches_from.Goals as goal
-use Rattle.verdict.proofs.faults.switches_from.Goals.{then-switches_at+in-Fine, else-switches_at}
+use Rattle.verdict.proofs.faults.switches_from.Goals.{then-switches_at+in_default, else-switches_at}
 
-pub loop-t-init : goal.loop-t-init
-loop-t-init c =
+pub switches-init : goal.switches-init
+switches-init c =
     let a = c.args in
     (omega arith, each_start a.list.now a.n a.l a.lo.now a.hi.now (edge_at a.before.now), running_first first_edition.jobs a.lo.now)
 
-pub loop-t-preserved : goal.loop-t-preserved
-loop-t-preserved c =
+pub switches-preserved : goal.switches-preserved
+switches-preserved c =
     let a = c.args in
-    let o = c.loop-t in
+    let o = c.switches in
     let j = c.entry_at-j in
     let on = each_switch (frame_with a.list.now a.n a.l a.lo.now a.hi.now (edge_at a.before.now)) (a.l - (o.t + 1)) (o.t + 1) (lo_units a.list.now a.n a.l a.lo.now a.hi.now (edge_at a.before.now) (o.t + 1)) in
     elim c.if-switches_at.branch [
-      | then-switches_at+in-Fine w ↦ (
+      | then-switches_at+in_default w ↦ (
         omega arith,
         o.invariant.1 ∙ each_yes a.list.now a.n a.l a.lo.now a.hi.now (edge_at a.before.now) o.t c.if-l-t.false c.requires.3 j.result j.ensures.0 w.units_before-had.result w.needs_after-need.result (sym c.switches_at.ensures ∙ w.if-switches_at.true) (omega (arith, c.requires.0)) (omega (arith, c.requires.2)) w.units_before-had.ensures w.needs_after-need.ensures
-            ∙ told_then (scan (frame_with a.list.now a.n a.l a.lo.now a.hi.now (edge_at a.before.now)) (units_of w.needs_after-need.result) (a.l - (o.t + 1)) (o.t + 1) (state 1 0 (chain_of o.t) w.units_before-had.result)) on (sym w.scan_from-f.ensures ∙ w.in-Fine.is),
+            ∙ told_then (scan (frame_with a.list.now a.n a.l a.lo.now a.hi.now (edge_at a.before.now)) (units_of w.needs_after-need.result) (a.l - (o.t + 1)) (o.t + 1) (state 1 0 (chain_of o.t) w.units_before-had.result)) on (sym w.scan_from-f.ensures ∙ w.in_default.is),
         c.move_on.ensures,
       )
       | else-switches_at w ↦ (
@@ -42,16 +42,15 @@ loop-t-preserved c =
 pub returns-then-l-t : goal.returns-then-l-t
 returns-then-l-t c =
     let a = c.args in
-    let o = c.loop-t in
+    let o = c.switches in
     sym (ap told (o.invariant.1 ∙ each_end a.list.now a.n a.l a.lo.now a.hi.now (edge_at a.before.now) o.t c.if-l-t.true))
 
-pub returns-in_default : goal.returns-in_default
-returns-in_default c =
+pub returns-in-Err : goal.returns-in-Err
+returns-in-Err c =
     let a = c.args in
-    let o = c.loop-t in
+    let o = c.switches in
     let j = c.entry_at-j in
-    let g = c.in_default.is in
     let had = c.units_before-had in
     let need = c.needs_after-need in
-    g ∙ sym (ap told (o.invariant.1 ∙ each_yes a.list.now a.n a.l a.lo.now a.hi.now (edge_at a.before.now) o.t c.if-l-t.false c.requires.3 j.result j.ensures.0 had.result need.result (sym c.switches_at.ensures ∙ c.if-switches_at.true) (omega (arith, c.requires.0)) (omega (arith, c.requires.2)) had.ensures need.ensures)
-    ∙ told_found (scan (frame_with a.list.now a.n a.l a.lo.now a.hi.now (edge_at a.before.now)) (units_of need.result) (a.l - (o.t + 1)) (o.t + 1) (state 1 0 (chain_of o.t) had.result)) (each_switch (frame_with a.list.now a.n a.l a.lo.now a.hi.now (edge_at a.before.now)) (a.l - (o.t + 1)) (o.t + 1) (lo_units a.list.now a.n a.l a.lo.now a.hi.now (edge_at a.before.now) (o.t + 1))) _ (sym c.scan_from-f.ensures ∙ g))
+    sym (ap told (o.invariant.1 ∙ each_yes a.list.now a.n a.l a.lo.now a.hi.now (edge_at a.before.now) o.t c.if-l-t.false c.requires.3 j.result j.ensures.0 had.result need.result (sym c.switches_at.ensures ∙ c.if-switches_at.true) (omega (arith, c.requires.0)) (omega (arith, c.requires.2)) had.ensures need.ensures)
+    ∙ told_found (scan (frame_with a.list.now a.n a.l a.lo.now a.hi.now (edge_at a.before.now)) (units_of need.result) (a.l - (o.t + 1)) (o.t + 1) (state 1 0 (chain_of o.t) had.result)) (each_switch (frame_with a.list.now a.n a.l a.lo.now a.hi.now (edge_at a.before.now)) (a.l - (o.t + 1)) (o.t + 1) (lo_units a.list.now a.n a.l a.lo.now a.hi.now (edge_at a.before.now) (o.t + 1))) _ (sym c.scan_from-f.ensures ∙ c.in-Err.is))
