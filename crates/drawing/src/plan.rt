@@ -1,52 +1,73 @@
 // What a plan's bytes say of its tables: nothing is asked of a caller.
-use jobtext::list;
-use page::less;
-use planfile::{high_of, low_of};
+use jobtext::{Names, list};
+use std::ops::Range;
 use verdict::count::{entries_before, entry_at};
 
-// The list of a plan.
-pub fn list_of(plan: &[u8]) -> &[u8] {
-    planfile::list_of(plan)
+// The two tables of a plan.
+#[derive(Clone, Copy, PartialEq, Eq)]
+pub enum Table {
+    Low,
+    High,
 }
 
-// The entry of one of the two tables.
-pub fn entry(plan: &[u8], is_high: bool, t: usize) -> usize {
-    if is_high {
-        return entry_at(high_of(plan), t);
-    }
-    entry_at(low_of(plan), t)
+// A plan's bytes, and the names of its jobs.
+#[derive(Clone, Copy)]
+pub struct Plan<'a> {
+    pub bytes: &'a [u8],
+    pub names: &'a Names,
 }
 
-// How many of a table's slots before slot t name a job.
-pub fn entries(plan: &[u8], is_high: bool, j: usize, t: usize) -> usize {
-    if is_high {
-        return entries_before(high_of(plan), j, t);
+impl<'a> Plan<'a> {
+    pub fn list(self) -> &'a [u8] {
+        planfile::list_of(self.bytes)
     }
-    entries_before(low_of(plan), j, t)
-}
 
-// Whether a high job with CHI > CLO has its CLO-th unit in slot t of table LO.
-pub fn switches(plan: &[u8], t: usize) -> bool {
-    let list = list_of(plan);
-    let j = entry(plan, false, t);
-    if list::jobs(list) <= j {
-        return false;
+    // The numbers of its jobs.
+    pub fn jobs(self) -> Range<usize> {
+        0..list::jobs(self.list())
     }
-    if !list::is_high(list, j) {
-        return false;
-    }
-    let clo = list::ordinary(list, j);
-    if list::high(list, j) <= clo {
-        return false;
-    }
-    entries(plan, false, j, t) == less(clo, 1)
-}
 
-// Whether job j may run in slot t.
-pub fn is_open(plan: &[u8], j: usize, t: usize) -> bool {
-    let list = list_of(plan);
-    if t < list::arrival(list, j) {
-        return false;
+    // The numbers of its slots.
+    pub fn slots(self) -> Range<usize> {
+        0..list::slots(self.list())
     }
-    t < list::deadline(list, j)
+
+    // The entries of a table.
+    pub fn table(self, table: Table) -> &'a [u8] {
+        match table {
+            Table::Low => planfile::low_of(self.bytes),
+            Table::High => planfile::high_of(self.bytes),
+        }
+    }
+
+    // The entry of slot t.
+    pub fn entry(self, table: Table, t: usize) -> usize {
+        entry_at(self.table(table), t)
+    }
+
+    // How many of a table's slots before slot t name a job.
+    pub fn entries(self, table: Table, j: usize, t: usize) -> usize {
+        entries_before(self.table(table), j, t)
+    }
+
+    // Whether job j is a high job with CHI > CLO.
+    fn may_switch(self, j: usize) -> bool {
+        let list = self.list();
+        j < list::jobs(list)
+            && list::is_high(list, j)
+            && list::ordinary(list, j) < list::high(list, j)
+    }
+
+    // Whether a high job with CHI > CLO has its CLO-th unit in slot t of table LO.
+    pub fn switches(self, t: usize) -> bool {
+        let j = self.entry(Table::Low, t);
+        let before = list::ordinary(self.list(), j).saturating_sub(1);
+        self.may_switch(j) && self.entries(Table::Low, j, t) == before
+    }
+
+    // Whether job j may run in slot t.
+    pub fn is_open(self, j: usize, t: usize) -> bool {
+        let list = self.list();
+        (list::arrival(list, j)..list::deadline(list, j)).contains(&t)
+    }
 }

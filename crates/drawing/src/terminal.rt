@@ -1,286 +1,227 @@
 // The two tables in the columns of a terminal: a row a job, from its arrival to its deadline.
-use crate::plan::{entries, entry, is_open, list_of, switches};
-use joblist::MOST_SLOTS;
-use jobtext::{Names, list};
-use page::{Page, less, lower, plus};
+use crate::plan::{Plan, Table};
+use jobtext::list;
+use page::Page;
 
 // A frame of so many slots has wide cells and one block.
 const WIDE: usize = 16;
 
-// The slots of a block, and the blocks of the longest frame.
+// The slots of a block.
 const FOLD: usize = 32;
-
-const BLOCKS: usize = MOST_SLOTS / FOLD;
 
 // The columns of a job's label, and of the name in it.
 const LABEL: usize = 15;
 
 const NAME: usize = 11;
 
-// What is drawn: a table's slots from one to another, the columns of a slot, and whether in colour.
+// What is drawn: a table's slots from one to another, whether their cells are wide, and whether in colour.
 #[derive(Clone, Copy)]
-struct View {
-    is_high: bool,
+struct View<'a> {
+    plan: Plan<'a>,
+    table: Table,
     from: usize,
     to: usize,
-    wide: usize,
+    is_wide: bool,
     in_colour: bool,
 }
 
-// Whether a job has something to show in the view.
-fn shows(plan: &[u8], j: usize, v: View) -> bool {
-    let list = list_of(plan);
-    if entries(plan, v.is_high, j, v.from) != entries(plan, v.is_high, j, v.to) {
-        return true;
+impl View<'_> {
+    // The columns of a slot's inside; one more is the edge before it.
+    fn inside(self) -> usize {
+        if self.is_wide { 3 } else { 1 }
     }
-    if v.to <= list::arrival(list, j) {
-        return false;
-    }
-    v.from < list::deadline(list, j)
-}
 
-// The number over slot t, where it has one.
-fn number(page: Page, t: usize, wide: usize) -> Page {
-    if wide == 4 {
-        return page.number_left(t, 4);
+    // Whether a job has something to show in the view.
+    fn shows(self, j: usize) -> bool {
+        let list = self.plan.list();
+        let is_named = self.plan.entries(self.table, j, self.from)
+            != self.plan.entries(self.table, j, self.to);
+        is_named || list::arrival(list, j) < self.to && self.from < list::deadline(list, j)
     }
-    if t % 4 == 0 {
-        return page.number_left(t, 8);
-    }
-    page
-}
 
-fn numbers(page: Page, v: View) -> Page {
-    let mut to = page;
-    let wide = v.wide;
-    for t in v.from..v.to {
-        to = number(to, t, wide);
+    // The number over slot t, where it has one.
+    fn put_number(self, page: Page, t: usize) -> Page {
+        if self.is_wide {
+            page.number_left(t, 4)
+        } else if t % 4 == 0 {
+            page.number_left(t, 8)
+        } else {
+            page
+        }
     }
-    to.end()
-}
 
-// The line under the number of slot t.
-fn tick(page: Page, t: usize, wide: usize) -> Page {
-    if wide == 4 {
-        return page.put(b"\xe2\x94\xac\xe2\x94\x80\xe2\x94\x80\xe2\x94\x80");
+    // The line under the number of slot t.
+    fn put_tick(self, page: Page, t: usize) -> Page {
+        if self.is_wide {
+            page.put("┬───".as_bytes())
+        } else if t % 4 == 0 {
+            page.put("┬─".as_bytes())
+        } else {
+            page.put("──".as_bytes())
+        }
     }
-    if t % 4 == 0 {
-        return page.put(b"\xe2\x94\xac\xe2\x94\x80");
-    }
-    page.put(b"\xe2\x94\x80\xe2\x94\x80")
-}
 
-fn ticks(page: Page, v: View) -> Page {
-    let mut to = page;
-    let wide = v.wide;
-    for t in v.from..v.to {
-        to = tick(to, t, wide);
+    fn put_title(self, page: Page) -> Page {
+        match self.table {
+            Table::Low => page.left(b" table LO", LABEL),
+            Table::High => page.left(b" table HI", LABEL),
+        }
     }
-    to.line(b"\xe2\x94\xac")
-}
 
-// The table's name, and the ruler of slots.
-fn ruler(page: Page, v: View) -> Page {
-    let numbered = numbers(title(page, v.is_high), v);
-    ticks(numbered.blank(LABEL), v)
-}
+    // The table's name, and the ruler of slots.
+    fn put_ruler(self, page: Page) -> Page {
+        let slots = self.from..self.to;
+        let numbered = slots.fold(self.put_title(page), |to, t| self.put_number(to, t));
+        let under = numbered.end().blank(LABEL);
+        let ticked = (self.from..self.to).fold(under, |to, t| self.put_tick(to, t));
+        ticked.line("┬".as_bytes())
+    }
 
-fn title(page: Page, is_high: bool) -> Page {
-    if is_high {
-        return page.left(b" table HI", LABEL);
+    // A name in a fixed number of columns, and a blank.
+    fn put_name(self, page: Page, j: usize) -> Page {
+        let names = self.plan.names;
+        let size = names.width(j);
+        if size <= NAME {
+            return names.put(page, j).blank(NAME - size + 1);
+        }
+        names.put_start(page, j, NAME - 1).put(b"~ ")
     }
-    page.left(b" table LO", LABEL)
-}
 
-// A name in a fixed number of columns, and a blank.
-fn short_name(page: Page, names: Names, j: usize) -> Page {
-    let size = names.width(j);
-    if size <= NAME {
-        return names.put(page, j).blank(plus(1, less(NAME, size)));
+    fn put_level(self, page: Page, j: usize) -> Page {
+        if list::is_high(self.plan.list(), j) {
+            return page.put(b"H ");
+        }
+        page.put(b"L ")
     }
-    names.put_start(page, j, NAME - 1).put(b"~ ")
-}
 
-fn level(page: Page, plan: &[u8], j: usize) -> Page {
-    if list::is_high(list_of(plan), j) {
-        return page.put(b"H ");
+    // Whether a job has a slot.
+    fn has(self, j: usize, t: usize) -> bool {
+        self.plan.entry(self.table, t) == j
     }
-    page.put(b"L ")
-}
 
-// The edge between slots t - 1 and t.
-fn boundary(page: Page, plan: &[u8], j: usize, t: usize, is_high: bool) -> Page {
-    let list = list_of(plan);
-    if t == list::arrival(list, j) {
-        return page.put(b"\xe2\x94\x9c");
+    // Whether a job has both slots beside the edge before slot t.
+    fn is_run(self, j: usize, t: usize) -> bool {
+        t != 0 && self.has(j, t - 1) && self.has(j, t)
     }
-    if t == list::deadline(list, j) {
-        return page.put(b"\xe2\x94\xa4");
-    }
-    if is_run(plan, j, t, is_high) {
-        return page.put(b"\xe2\x96\x88");
-    }
-    if is_open(plan, j, t) {
-        return page.put(b"\xe2\x94\x80");
-    }
-    page.blank(1)
-}
 
-// Whether the job has both slots beside the edge.
-fn is_run(plan: &[u8], j: usize, t: usize, is_high: bool) -> bool {
-    if t == 0 {
-        return false;
+    // The edge between slots t - 1 and t.
+    fn put_edge(self, page: Page, j: usize, t: usize) -> Page {
+        let list = self.plan.list();
+        if t == list::arrival(list, j) {
+            page.put("├".as_bytes())
+        } else if t == list::deadline(list, j) {
+            page.put("┤".as_bytes())
+        } else if self.is_run(j, t) {
+            page.put("█".as_bytes())
+        } else if self.plan.is_open(j, t) {
+            page.put("─".as_bytes())
+        } else {
+            page.blank(1)
+        }
     }
-    if entry(plan, is_high, t - 1) != j {
-        return false;
-    }
-    entry(plan, is_high, t) == j
-}
 
-// The inside of slot t, of k columns.
-fn cell(page: Page, plan: &[u8], j: usize, t: usize, is_high: bool, k: usize) -> Page {
-    if entry(plan, is_high, t) == j {
-        return filled(page, marks(plan, t, is_high), k);
+    // Whether slot t shows a switch: in table LO alone.
+    fn marks(self, t: usize) -> bool {
+        self.table == Table::Low && self.plan.switches(t)
     }
-    if is_open(plan, j, t) {
-        return page.fill(b"\xe2\x94\x80", k);
-    }
-    page.blank(k)
-}
 
-// A switch is marked in table LO alone.
-fn marks(plan: &[u8], t: usize, is_high: bool) -> bool {
-    if is_high {
-        return false;
+    // The inside of slot t, which a job has.
+    fn put_unit(self, page: Page, t: usize) -> Page {
+        let k = self.inside();
+        if self.marks(t) {
+            return page
+                .fill("█".as_bytes(), k.saturating_sub(1))
+                .put("▶".as_bytes());
+        }
+        page.fill("█".as_bytes(), k)
     }
-    switches(plan, t)
-}
 
-fn filled(page: Page, is_switch: bool, k: usize) -> Page {
-    if is_switch {
-        return page.fill(b"\xe2\x96\x88", less(k, 1)).put(b"\xe2\x96\xb6");
+    // The inside of slot t.
+    fn put_inside(self, page: Page, j: usize, t: usize) -> Page {
+        if self.has(j, t) {
+            self.put_unit(page, t)
+        } else if self.plan.is_open(j, t) {
+            page.fill("─".as_bytes(), self.inside())
+        } else {
+            page.blank(self.inside())
+        }
     }
-    page.fill(b"\xe2\x96\x88", k)
-}
 
-fn slot(page: Page, plan: &[u8], j: usize, t: usize, v: View) -> Page {
-    let to = boundary(page, plan, j, t, v.is_high);
-    cell(to, plan, j, t, v.is_high, less(v.wide, 1))
-}
+    fn put_slot(self, page: Page, j: usize, t: usize) -> Page {
+        self.put_inside(self.put_edge(page, j, t), j, t)
+    }
 
-fn slots(page: Page, plan: &[u8], j: usize, v: View) -> Page {
-    let mut to = page;
-    for t in v.from..v.to {
-        to = slot(to, plan, j, t, v);
+    // The last edge of a row: the deadline, or the window goes on.
+    fn put_last(self, page: Page, j: usize) -> Page {
+        let list = self.plan.list();
+        if self.to == list::deadline(list, j) {
+            page.put("┤".as_bytes())
+        } else if self.plan.is_open(j, self.to) {
+            page.put("─".as_bytes())
+        } else {
+            page
+        }
     }
-    last(to, plan, j, v.to)
-}
 
-// The last edge of a row: the deadline, or the window goes on.
-fn last(page: Page, plan: &[u8], j: usize, t: usize) -> Page {
-    let list = list_of(plan);
-    if t == list::deadline(list, j) {
-        return page.put(b"\xe2\x94\xa4");
+    fn put_window(self, page: Page, j: usize) -> Page {
+        let to = (self.from..self.to).fold(page, |to, t| self.put_slot(to, j, t));
+        self.put_last(to, j)
     }
-    if is_open(plan, j, t) {
-        return page.put(b"\xe2\x94\x80");
-    }
-    page
-}
 
-fn paint(page: Page, plan: &[u8], j: usize, in_colour: bool) -> Page {
-    if !in_colour {
-        return page;
+    // The window in the colour of the job's level.
+    fn put_painted(self, page: Page, j: usize) -> Page {
+        let colour = if list::is_high(self.plan.list(), j) {
+            page.put(b"\x1b[33m")
+        } else {
+            page.put(b"\x1b[36m")
+        };
+        self.put_window(colour, j).trimmed().put(b"\x1b[0m")
     }
-    if list::is_high(list_of(plan), j) {
-        return page.put(b"\x1b[33m");
-    }
-    page.put(b"\x1b[36m")
-}
 
-fn unpaint(page: Page, in_colour: bool) -> Page {
-    if in_colour {
-        return page.trimmed().put(b"\x1b[0m");
+    // A row of a table: the name and the level, then the window and what is in it.
+    fn put_row(self, page: Page, j: usize) -> Page {
+        let label = self.put_level(self.put_name(page.blank(1), j), j);
+        let row = if self.in_colour {
+            self.put_painted(label, j)
+        } else {
+            self.put_window(label, j)
+        };
+        row.end()
     }
-    page
-}
 
-// A row of a table: the name and the level, then the window and what is in it.
-fn row(page: Page, plan: &[u8], names: Names, j: usize, v: View) -> Page {
-    if !shows(plan, j, v) {
-        return page;
+    fn put_table(self, page: Page) -> Page {
+        let rows = self.plan.jobs().filter(|j| self.shows(*j));
+        rows.fold(self.put_ruler(page), |to, j| self.put_row(to, j))
+            .end()
     }
-    let label = level(short_name(page.blank(1), names, j), plan, j);
-    let window = slots(paint(label, plan, j, v.in_colour), plan, j, v);
-    unpaint(window, v.in_colour).end()
-}
-
-fn rows(page: Page, plan: &[u8], names: Names, v: View) -> Page {
-    let mut to = page;
-    for j in 0..list::jobs(list_of(plan)) {
-        to = row(to, plan, names, j, v);
-    }
-    to.end()
-}
-
-fn table(page: Page, plan: &[u8], names: Names, v: View) -> Page {
-    rows(ruler(page, v), plan, names, v)
-}
-
-// The columns of a slot, where there are l.
-fn columns(l: usize) -> usize {
-    if l <= WIDE {
-        return 4;
-    }
-    2
 }
 
 // Some slots of both tables, LO above HI.
-fn block(page: Page, plan: &[u8], names: Names, from: usize, in_colour: bool) -> Page {
-    let l = list::slots(list_of(plan));
-    if l <= from {
-        return page;
-    }
+fn put_block(page: Page, plan: Plan, from: usize, in_colour: bool) -> Page {
+    let slots = list::slots(plan.list());
     let low = View {
-        is_high: false,
-        from: from,
-        to: lower(l, plus(from, FOLD)),
-        wide: columns(l),
-        in_colour: in_colour,
+        plan,
+        table: Table::Low,
+        from,
+        to: slots.min(from.saturating_add(FOLD)),
+        is_wide: slots <= WIDE,
+        in_colour,
     };
-    let mut high = low;
-    high.is_high = true;
-    table(table(page, plan, names, low), plan, names, high)
-}
-
-fn blocks(page: Page, plan: &[u8], names: Names, in_colour: bool) -> Page {
-    let mut to = page;
-    for b in 0..BLOCKS {
-        to = block(to, plan, names, FOLD * b, in_colour);
-    }
-    to
+    let high = View {
+        table: Table::High,
+        ..low
+    };
+    high.put_table(low.put_table(page))
 }
 
 // One switch slot.
-fn switch(page: Page, plan: &[u8], names: Names, t: usize) -> Page {
-    if !switches(plan, t) {
-        return page;
-    }
+fn put_switch(page: Page, plan: Plan, t: usize) -> Page {
     let at = page
-        .put(b" \xe2\x96\xb6 switch slot ")
+        .put(" ▶ switch slot ".as_bytes())
         .number(t)
         .put(b": if ");
-    names.put(at, entry(plan, false, t)).line(
-        b" has not ended after it, the rest of the frame is table HI's",
-    )
-}
-
-fn each_switch(page: Page, plan: &[u8], names: Names) -> Page {
-    let mut to = page;
-    for t in 0..list::slots(list_of(plan)) {
-        to = switch(to, plan, names, t);
-    }
-    to
+    let named = plan.names.put(at, plan.entry(Table::Low, t));
+    named.line(b" has not ended after it, the rest of the frame is table HI's")
 }
 
 // The counts of a list.
@@ -291,7 +232,10 @@ pub fn put_counts(page: Page, list: &[u8]) -> Page {
 }
 
 // The counts and the whole of both tables.
-pub fn put_tables(page: Page, plan: &[u8], names: Names, in_colour: bool) -> Page {
-    let counted = put_counts(page.blank(1), list_of(plan)).end().end();
-    each_switch(blocks(counted, plan, names, in_colour), plan, names)
+pub fn put_tables(page: Page, plan: Plan, in_colour: bool) -> Page {
+    let counted = put_counts(page.blank(1), plan.list()).end().end();
+    let blocks = plan.slots().step_by(FOLD);
+    let drawn = blocks.fold(counted, |to, from| put_block(to, plan, from, in_colour));
+    let switches = plan.slots().filter(|t| plan.switches(*t));
+    switches.fold(drawn, |to, t| put_switch(to, plan, t))
 }

@@ -1,18 +1,17 @@
 // The night on which a plan goes wrong, as an SVG picture: the slots that ran are full, and those that did not are hollow.
 #![tactic(auto)]
 
-use jobtext::{Names, list};
+use drawing::plan::{Plan, Table};
 use nights::night::{Night, Slot};
-use nights::{budgets, slot_of, witness_of};
-use page::{Page, less, plus};
+use nights::{At, budgets, witness_of};
+use page::Page;
 use picture::shapes::{head, key, label, text_at, text_end, upright};
-use picture::sheet::{MARGIN, Sheet, filled, larger, numbers, slot_box, window_row};
-use planfile::list_of;
+use picture::sheet::{Grid, MARGIN, Sheet};
 use verdict::{Fault, Objection};
 
 // How a slot looks that did not run, and the fault.
-const STYLE: [u8; 145] =
-    *b"<style>.hollow{fill:#fff;stroke:#7b8794;stroke-width:1.5;stroke-dasharray:3 2}
+const STYLE: &[u8] =
+    b"<style>.hollow{fill:#fff;stroke:#7b8794;stroke-width:1.5;stroke-dasharray:3 2}
 .fault{stroke:#e03131;stroke-width:5}.wrong{fill:#e03131}</style>
 ";
 
@@ -22,154 +21,106 @@ const NEED: usize = 230;
 const UNDER: usize = 28;
 
 // What a job needs, beside its row.
-fn need(page: Page, plan: &[u8], sheet: Sheet, night: Night, j: usize) -> Page {
-    let list = list_of(plan);
-    let x = plus(sheet.x_of(list::slots(list)), 12);
-    let y = plus(sheet.y_of(false, j), 17);
-    let to = text_at(page, b"small", x, y)
-        .put(b"needs ")
-        .number(night.need(j));
-    text_end(budgets(to, list, j))
+fn put_need(page: Page, grid: Grid, night: &Night, j: usize) -> Page {
+    let x = grid.sheet.end().saturating_add(12);
+    let y = grid.y_of(j).saturating_add(17);
+    let to = text_at(page, b"small", x, y).put(b"needs ");
+    let needed = to.number(night.work(j).need);
+    text_end(budgets(needed, night.plan.list(), j))
 }
 
 // A row: the name, the window and the need.
-fn row(page: Page, plan: &[u8], names: Names, sheet: Sheet, night: Night, j: usize) -> Page {
-    let to = window_row(page, plan, names, sheet, false, j);
-    need(to, plan, sheet, night, j)
+fn put_row(page: Page, grid: Grid, night: &Night, j: usize) -> Page {
+    put_need(grid.put_row(page, j), grid, night, j)
 }
 
-fn rows(page: Page, plan: &[u8], names: Names, sheet: Sheet, night: Night) -> Page {
-    let mut to = page;
-    for j in 0..sheet.rows {
-        to = row(to, plan, names, sheet, night, j);
-    }
-    to
+fn put_rows(page: Page, grid: Grid, night: &Night) -> Page {
+    let jobs = night.plan.jobs();
+    jobs.fold(page, |to, j| put_row(to, grid, night, j))
 }
 
-// A slot whose job did not run.
-fn hollow(page: Page, sheet: Sheet, j: usize, t: usize) -> Page {
-    slot_box(page, b"hollow", sheet, false, j, t)
-}
-
-// What slot t did.
-fn slot(page: Page, plan: &[u8], sheet: Sheet, slot: Slot, t: usize) -> Page {
+// What slot t did: hollow where its job did not run.
+fn put_slot(page: Page, grid: Grid, slot: Slot, t: usize) -> Page {
     match slot {
         Slot::Idle => page,
-        Slot::Runs(j) => filled(page, plan, sheet, false, j, t),
-        Slot::Ended(j) => hollow(page, sheet, j, t),
-        Slot::Soon(j) => hollow(page, sheet, j, t),
-        Slot::Past(j) => hollow(page, sheet, j, t),
-        Slot::Waits(j, _) => hollow(page, sheet, j, t),
+        Slot::Runs(j) => grid.put_filled(page, j, t),
+        Slot::Ended(j) | Slot::Soon(j) | Slot::Past(j) | Slot::Waits(j, _) => {
+            grid.put_slot(page, b"hollow", j, t)
+        }
     }
 }
 
 // The slots up to the fault.
-fn slots(page: Page, plan: &[u8], sheet: Sheet, night: Night, to: usize) -> Page {
-    let mut drawn = page;
-    let mut at = night;
-    for t in 0..to {
-        let s = at.slot(plan, t);
-        drawn = slot(drawn, plan, sheet, s, t);
-        at = at.next(plan, s);
+fn put_slots(page: Page, grid: Grid, opened: Night, end: usize) -> Page {
+    let mut to = page;
+    let mut night = opened;
+    for t in 0..end {
+        let slot = night.slot(t);
+        to = put_slot(to, grid, slot, t);
+        night = night.next(slot);
     }
-    drawn
+    to
 }
 
 // The switch: a line at the end of its slot.
-fn switch(page: Page, sheet: Sheet, x: usize) -> Page {
+fn put_switch(page: Page, grid: Grid, x: usize) -> Page {
     if x == Fault::NO_SWITCH {
         return page;
     }
-    let at = sheet.x_of(plus(x, 1));
+    let at = grid.sheet.x_of(x.saturating_add(1));
     upright(
         page,
         b"switch",
         at,
-        less(sheet.y_of(false, 0), 4),
-        sheet.y_of(false, sheet.rows),
+        grid.top.saturating_sub(4),
+        grid.bottom(),
     )
-}
-
-// The job of a fault, and its switch slot.
-fn job_of(f: Fault) -> usize {
-    match f {
-        Fault::Late(_, j, _) => j,
-        Fault::Early(_, j, _) => j,
-        Fault::Before(_, j, _, _) => j,
-    }
-}
-
-fn switch_of(f: Fault) -> usize {
-    match f {
-        Fault::Late(_, _, x) => x,
-        Fault::Early(_, _, x) => x,
-        Fault::Before(_, _, _, x) => x,
-    }
 }
 
 // The fault: a mark at the opening of its slot, and its number in words under the rows.
-fn fault(page: Page, sheet: Sheet, f: Fault) -> Page {
-    let x = sheet.x_of(slot_of(f));
-    let y = sheet.y_of(false, job_of(f));
-    let marked = upright(page, b"fault", x, y, plus(y, 24));
-    let under = plus(sheet.y_of(false, sheet.rows), 20);
-    let to = text_at(marked, b"wrong", 20, under)
-        .put(b"slot ")
-        .number(slot_of(f))
-        .put(b": ");
-    text_end(words::meaning(to, verdict::fault_number(f)))
+fn put_fault(page: Page, grid: Grid, f: Fault) -> Page {
+    let At { slot, job, .. } = At::from(f);
+    let y = grid.y_of(job);
+    let x = grid.sheet.x_of(slot);
+    let marked = upright(page, b"fault", x, y, y.saturating_add(24));
+    let under = grid.bottom().saturating_add(20);
+    let to = text_at(marked, b"wrong", 20, under).put(b"slot ");
+    let placed = to.number(slot).put(b": ");
+    text_end(words::meaning(placed, verdict::fault_number(f)))
 }
 
-fn legend(page: Page) -> Page {
+fn put_legend(page: Page) -> Page {
     let high = key(page, b"high", 20, b"high job");
     let low = key(high, b"low", 124, b"low job");
     let hollow = key(low, b"hollow", 222, b"named, and did not run");
-    let switched = label(
-        upright(hollow, b"switch", 434, 44, 62),
-        b"key",
-        444,
-        58,
-        b"from LO to HI",
-    );
-    label(
-        upright(switched, b"fault", 572, 44, 62),
-        b"key",
-        582,
-        58,
-        b"goes wrong",
-    )
+    let switch = upright(hollow, b"switch", 434, 44, 62);
+    let switched = label(switch, b"key", 444, 58, b"from LO to HI");
+    let fault = upright(switched, b"fault", 572, 44, 62);
+    label(fault, b"key", 582, 58, b"goes wrong")
 }
 
-fn heading(page: Page) -> Page {
-    legend(label(
-        page.put(&STYLE),
-        b"head",
-        20,
-        30,
-        b"A night on which it goes wrong",
-    ))
+fn put_heading(page: Page) -> Page {
+    let title = b"A night on which it goes wrong";
+    put_legend(label(page.put(STYLE), b"head", 20, 30, title))
 }
 
-fn put_fault(page: Page, plan: &[u8], names: Names, night: Night, f: Fault) -> Page {
-    let sheet = Sheet::new(plan, names);
-    let w = larger(680, plus(sheet.x_of(list::slots(list_of(plan))), NEED));
-    let h = plus(sheet.y_of(false, sheet.rows), plus(UNDER, MARGIN));
-    let ruled = numbers(heading(head(page, w, h)), plan, sheet, false);
-    let jobs = rows(ruled, plan, names, sheet, night);
-    let ran = slots(jobs, plan, sheet, night, slot_of(f));
-    fault(switch(ran, sheet, switch_of(f)), sheet, f).line(b"</svg>")
+fn put_bad(page: Page, night: Night, f: Fault) -> Page {
+    let sheet = Sheet::new(night.plan);
+    let grid = sheet.grid(Table::Low);
+    let At { slot, switch, .. } = At::from(f);
+    let width = sheet.end().saturating_add(NEED).max(680);
+    let height = grid.bottom().saturating_add(UNDER + MARGIN);
+    let ruled = grid.put_numbers(put_heading(head(page, width, height)));
+    let rows = put_rows(ruled, grid, &night);
+    let ran = put_slots(rows, grid, night, slot);
+    put_fault(put_switch(ran, grid, switch), grid, f).line(b"</svg>")
 }
 
 // The night behind the fault of a plan; nothing where the check names none.
-pub fn put_picture(page: Page, plan: &[u8], names: Names) -> Page {
+pub fn put_picture(page: Page, plan: Plan) -> Page {
     let w = witness_of(plan);
-    let v = w.verdict;
-    let needs = w.needs;
-    let Err(o) = v else {
+    let Err(Objection::Bad(f)) = w.verdict else {
         return page;
     };
-    let Objection::Bad(f) = o else {
-        return page;
-    };
-    put_fault(page, plan, names, Night::opened(needs), f)
+    put_bad(page, Night::opened(plan, w.needs), f)
 }

@@ -1,16 +1,27 @@
 // One execution, slot by slot, as document 01 has it: what each job needs and has had, and the table in force.
+use drawing::plan::{Plan, Table};
 use joblist::MOST_JOBS;
 use jobtext::list;
-use page::after;
-use planfile::{high_of, list_of, low_of};
-use verdict::count::entry_at;
 
-// What stands at the opening of a slot: the units that each job needs and has had, and whether table HI is in force.
+// The units that a job needs, and those that it has had.
+#[derive(Clone, Copy, Default)]
+pub struct Work {
+    pub need: usize,
+    pub had: usize,
+}
+
+impl Work {
+    fn has_ended(self) -> bool {
+        self.need <= self.had
+    }
+}
+
+// What stands at the opening of a slot: the work of each job of the plan, and the table in force.
 #[derive(Clone, Copy)]
-pub struct Night {
-    needs: [u16; MOST_JOBS],
-    units: [usize; MOST_JOBS],
-    is_high: bool,
+pub struct Night<'a> {
+    pub plan: Plan<'a>,
+    pub table: Table,
+    work: [Work; MOST_JOBS],
 }
 
 // What a slot does: none is named; the job runs; it has ended; or in HI, of a low job: it has not arrived, its deadline is
@@ -25,138 +36,81 @@ pub enum Slot {
     Waits(usize, usize),
 }
 
-fn wide(x: u16) -> usize {
-    x as usize
-}
-
-impl Night {
+impl<'a> Night<'a> {
     // The frame opens in LO.
-    pub fn opened(needs: [u16; MOST_JOBS]) -> Self {
+    pub fn opened(plan: Plan<'a>, needs: [u16; MOST_JOBS]) -> Self {
         Night {
-            needs: needs,
-            units: [0usize; MOST_JOBS],
-            is_high: false,
+            plan,
+            table: Table::Low,
+            work: needs.map(|n| Work {
+                need: usize::from(n),
+                had: 0,
+            }),
         }
     }
 
-    // Whether table HI is in force.
-    pub fn is_in_high(self) -> bool {
-        self.is_high
+    // The work of job j; none where there is no such job.
+    pub fn work(&self, j: usize) -> Work {
+        self.work.get(j).copied().unwrap_or_default()
     }
 
-    // The units that job j needs.
-    pub fn need(self, j: usize) -> usize {
-        if j < MOST_JOBS {
-            return wide(self.needs[j]);
-        }
-        0
-    }
-
-    // The units that it has had.
-    pub fn had(self, j: usize) -> usize {
-        if j < MOST_JOBS {
-            return self.units[j];
-        }
-        0
-    }
-
-    fn has_ended(self, j: usize) -> bool {
-        self.need(j) <= self.had(j)
-    }
-
-    // Whether job j waits for the first job of edge e.
-    fn is_held(self, list: &[u8], j: usize, e: usize) -> bool {
-        if list::edge_to(list, e) != j {
-            return false;
-        }
-        !self.has_ended(list::edge_from(list, e))
-    }
-
-    // The lowest job that job j waits for; one past the last where there is none.
-    fn waits_for(self, list: &[u8], j: usize) -> usize {
-        for e in 0..list::edges(list) {
-            if self.is_held(list, j, e) {
-                return list::edge_from(list, e);
-            }
-        }
-        MOST_JOBS
-    }
-
-    // The job that the table in force names in slot t.
-    fn named(self, plan: &[u8], t: usize) -> usize {
-        if self.is_high {
-            return entry_at(high_of(plan), t);
-        }
-        entry_at(low_of(plan), t)
+    // The lowest job that job j waits for.
+    fn waits_for(&self, j: usize) -> Option<usize> {
+        let list = self.plan.list();
+        (0..list::edges(list))
+            .filter(|e| list::edge_to(list, *e) == j)
+            .map(|e| list::edge_from(list, e))
+            .find(|p| !self.work(*p).has_ended())
     }
 
     // In HI a low job runs only if arrived, before its deadline and with its predecessors finished.
-    fn low_at(self, list: &[u8], j: usize, t: usize) -> Slot {
+    fn low_at(&self, j: usize, t: usize) -> Slot {
+        let list = self.plan.list();
         if t < list::arrival(list, j) {
             return Slot::Soon(j);
         }
         if list::deadline(list, j) <= t {
             return Slot::Past(j);
         }
-        let p = self.waits_for(list, j);
-        if p < MOST_JOBS {
-            return Slot::Waits(j, p);
+        match self.waits_for(j) {
+            Some(p) => Slot::Waits(j, p),
+            None => Slot::Runs(j),
         }
-        Slot::Runs(j)
     }
 
     // What slot t does.
-    pub fn slot(self, plan: &[u8], t: usize) -> Slot {
-        let list = list_of(plan);
-        let j = self.named(plan, t);
+    pub fn slot(&self, t: usize) -> Slot {
+        let list = self.plan.list();
+        let j = self.plan.entry(self.table, t);
         if list::jobs(list) <= j {
-            return Slot::Idle;
+            Slot::Idle
+        } else if self.work(j).has_ended() {
+            Slot::Ended(j)
+        } else if self.table == Table::Low || list::is_high(list, j) {
+            Slot::Runs(j)
+        } else {
+            self.low_at(j, t)
         }
-        if self.has_ended(j) {
-            return Slot::Ended(j);
-        }
-        if !self.is_high {
-            return Slot::Runs(j);
-        }
-        if list::is_high(list, j) {
-            return Slot::Runs(j);
-        }
-        self.low_at(list, j, t)
     }
 
-    // Whether table HI is in force once job j has had k units: a high job that has had CLO and is unfinished switches.
-    fn switches(self, list: &[u8], j: usize, k: usize) -> bool {
-        if self.is_high {
-            return true;
+    // One unit more of job j: a high job that has had CLO and is unfinished switches.
+    fn ran(mut self, j: usize) -> Self {
+        let list = self.plan.list();
+        let Work { need, had } = self.work(j);
+        let had = had.saturating_add(1);
+        if let Some(work) = self.work.get_mut(j) {
+            work.had = had;
         }
-        if !list::is_high(list, j) {
-            return false;
+        if list::is_high(list, j) && list::ordinary(list, j) <= had && had < need {
+            self.table = Table::High;
         }
-        if k < list::ordinary(list, j) {
-            return false;
-        }
-        k < self.need(j)
-    }
-
-    // One unit more of job j.
-    fn ran(self, list: &[u8], j: usize) -> Self {
-        let needs = self.needs;
-        let mut units = self.units;
-        let k = after(self.had(j));
-        if j < MOST_JOBS {
-            units[j] = k;
-        }
-        Night {
-            needs: needs,
-            units: units,
-            is_high: self.switches(list, j, k),
-        }
+        self
     }
 
     // What stands after a slot.
-    pub fn next(self, plan: &[u8], slot: Slot) -> Self {
+    pub fn next(self, slot: Slot) -> Self {
         match slot {
-            Slot::Runs(j) => self.ran(list_of(plan), j),
+            Slot::Runs(j) => self.ran(j),
             _ => self,
         }
     }

@@ -1,34 +1,26 @@
 // A night in words: what each job needs, what each slot does, and last what is wrong.
 use crate::night::{Night, Slot};
-use jobtext::{Names, list};
-use page::{Page, less, plus};
-use planfile::list_of;
+use drawing::plan::{Plan, Table};
+use jobtext::list;
+use page::Page;
 use verdict::Fault;
 
-fn larger(a: usize, b: usize) -> usize {
-    if a < b {
-        return b;
+// Where a fault is: its slot, its job and its switch slot.
+#[derive(Clone, Copy)]
+pub struct At {
+    pub slot: usize,
+    pub job: usize,
+    pub switch: usize,
+}
+
+impl From<Fault> for At {
+    fn from(f: Fault) -> Self {
+        match f {
+            Fault::Late(slot, job, switch)
+            | Fault::Early(slot, job, switch)
+            | Fault::Before(slot, job, _, switch) => At { slot, job, switch },
+        }
     }
-    a
-}
-
-// The columns of the longest of n names, and two more.
-fn columns(names: Names, n: usize) -> usize {
-    let mut most = 0;
-    for j in 0..n {
-        most = larger(most, names.width(j));
-    }
-    plus(most, 2)
-}
-
-// A job's name in so many columns.
-fn name(page: Page, names: Names, j: usize, wide: usize) -> Page {
-    names.put(page, j).blank(less(wide, names.width(j)))
-}
-
-// The units that a job has had, of those that it needs.
-fn units(page: Page, night: Night, j: usize) -> Page {
-    page.number(night.had(j)).put(b" of ").number(night.need(j))
 }
 
 // The budgets of a job; a low one has no second.
@@ -40,104 +32,122 @@ pub fn budgets(page: Page, list: &[u8], j: usize) -> Page {
     first.put(b", CHI ").number(list::high(list, j)).put(b")")
 }
 
-fn need(page: Page, plan: &[u8], names: Names, night: Night, j: usize, wide: usize) -> Page {
-    let named = name(page.blank(4), names, j, wide);
-    budgets(named.count(night.need(j), b"slot"), list_of(plan), j).end()
-}
-
-fn needs(page: Page, plan: &[u8], names: Names, night: Night, wide: usize) -> Page {
-    let mut to = page;
-    for j in 0..list::jobs(list_of(plan)) {
-        to = need(to, plan, names, night, j, wide);
-    }
-    to.end()
+// The units that a job has had, of those that it needs.
+fn put_units(page: Page, night: &Night, j: usize) -> Page {
+    let work = night.work(j);
+    page.number(work.had).put(b" of ").number(work.need)
 }
 
 // A slot and the table in force.
-fn place(page: Page, night: Night, t: usize) -> Page {
+fn put_place(page: Page, table: Table, t: usize) -> Page {
     let to = page.put(b"slot ").number_right(t, 4);
-    if night.is_in_high() {
-        return to.put(b"  HI  ");
-    }
-    to.put(b"  LO  ")
-}
-
-// A unit of job j, with the switch where it comes.
-fn unit(page: Page, before: Night, after: Night, j: usize) -> Page {
-    let to = units(page, after, j);
-    if before.is_in_high() {
-        return to;
-    }
-    if after.is_in_high() {
-        return to.put(b", and CLO is used up: table HI from the next slot on");
-    }
-    to
-}
-
-// What a slot does.
-fn deed(page: Page, names: Names, wide: usize, slot: Slot, before: Night, after: Night) -> Page {
-    match slot {
-        Slot::Idle => page.put(b"idle"),
-        Slot::Runs(j) => unit(name(page, names, j, wide), before, after, j),
-        Slot::Ended(j) => name(page, names, j, wide).put(b"has ended"),
-        Slot::Soon(j) => name(page, names, j, wide).put(b"has not arrived"),
-        Slot::Past(j) => name(page, names, j, wide).put(b"is past its deadline"),
-        Slot::Waits(j, p) => names.put(name(page, names, j, wide).put(b"waits for "), p),
+    match table {
+        Table::Low => to.put(b"  LO  "),
+        Table::High => to.put(b"  HI  "),
     }
 }
 
-// The slot of a fault.
-pub fn slot_of(f: Fault) -> usize {
-    match f {
-        Fault::Late(t, _, _) => t,
-        Fault::Early(t, _, _) => t,
-        Fault::Before(t, _, _, _) => t,
-    }
+// A plan, and the columns of its longest name and two more.
+#[derive(Clone, Copy)]
+struct Columns<'a> {
+    plan: Plan<'a>,
+    wide: usize,
 }
 
-// What is wrong there.
-fn wrong(page: Page, plan: &[u8], names: Names, wide: usize, night: Night, f: Fault) -> Page {
-    match f {
-        Fault::Late(_, j, _) => {
-            let to = name(page, names, j, wide).put(b"wrong: at its deadline it has had ");
-            units(to, night, j)
-        }
-        Fault::Early(_, j, _) => {
-            let to = name(page, names, j, wide).put(b"wrong: named before its arrival at slot ");
-            to.number(list::arrival(list_of(plan), j))
-        }
-        Fault::Before(_, j, p, _) => {
-            let to = name(page, names, j, wide).put(b"wrong: named before ");
-            units(names.put(to, p).put(b" has ended, with "), night, p)
+impl<'a> Columns<'a> {
+    fn new(plan: Plan<'a>) -> Self {
+        let widths = plan.jobs().map(|j| plan.names.width(j));
+        Columns {
+            plan,
+            wide: widths.max().unwrap_or(0).saturating_add(2),
         }
     }
-}
 
-// The slots up to the fault, and what is wrong at its opening.
-fn slots(page: Page, plan: &[u8], names: Names, wide: usize, night: Night, f: Fault) -> Page {
-    let mut to = page;
-    let mut at = night;
-    for t in 0..slot_of(f) {
-        let s = at.slot(plan, t);
-        let next = at.next(plan, s);
-        to = deed(place(to, at, t), names, wide, s, at, next).end();
-        at = next;
+    // A job's name in its columns.
+    fn put_name(self, page: Page, j: usize) -> Page {
+        let names = self.plan.names;
+        let rest = self.wide.saturating_sub(names.width(j));
+        names.put(page, j).blank(rest)
     }
-    wrong(place(to, at, slot_of(f)), plan, names, wide, at, f).end()
+
+    fn put_need(self, page: Page, night: &Night, j: usize) -> Page {
+        let named = self.put_name(page.blank(4), j);
+        let counted = named.count(night.work(j).need, b"slot");
+        budgets(counted, self.plan.list(), j).end()
+    }
+
+    fn put_needs(self, page: Page, night: &Night) -> Page {
+        let jobs = self.plan.jobs();
+        jobs.fold(page, |to, j| self.put_need(to, night, j)).end()
+    }
+
+    // A unit of job j, with the switch where it comes.
+    fn put_unit(self, page: Page, before: &Night, after: &Night, j: usize) -> Page {
+        let to = put_units(self.put_name(page, j), after, j);
+        if before.table == after.table {
+            return to;
+        }
+        to.put(b", and CLO is used up: table HI from the next slot on")
+    }
+
+    // What a slot does.
+    fn put_deed(self, page: Page, slot: Slot, before: &Night, after: &Night) -> Page {
+        match slot {
+            Slot::Idle => page.put(b"idle"),
+            Slot::Runs(j) => self.put_unit(page, before, after, j),
+            Slot::Ended(j) => self.put_name(page, j).put(b"has ended"),
+            Slot::Soon(j) => self.put_name(page, j).put(b"has not arrived"),
+            Slot::Past(j) => self.put_name(page, j).put(b"is past its deadline"),
+            Slot::Waits(j, p) => {
+                let to = self.put_name(page, j).put(b"waits for ");
+                self.plan.names.put(to, p)
+            }
+        }
+    }
+
+    // What is wrong at a fault.
+    fn put_wrong(self, page: Page, night: &Night, f: Fault) -> Page {
+        match f {
+            Fault::Late(_, j, _) => {
+                let to = self.put_name(page, j);
+                put_units(to.put(b"wrong: at its deadline it has had "), night, j)
+            }
+            Fault::Early(_, j, _) => {
+                let to = self.put_name(page, j);
+                to.put(b"wrong: named before its arrival at slot ")
+                    .number(list::arrival(self.plan.list(), j))
+            }
+            Fault::Before(_, j, p, _) => {
+                let to = self.put_name(page, j).put(b"wrong: named before ");
+                let named = self.plan.names.put(to, p);
+                put_units(named.put(b" has ended, with "), night, p)
+            }
+        }
+    }
+
+    // The slots up to the fault, and what is wrong at its opening.
+    fn put_slots(self, page: Page, opened: Night, f: Fault) -> Page {
+        let mut to = page;
+        let mut night = opened;
+        let end = At::from(f).slot;
+        for t in 0..end {
+            let slot = night.slot(t);
+            let next = night.next(slot);
+            to = self
+                .put_deed(put_place(to, night.table, t), slot, &night, &next)
+                .end();
+            night = next;
+        }
+        self.put_wrong(put_place(to, night.table, end), &night, f)
+            .end()
+    }
 }
 
 // The whole night.
-pub fn put_slots(page: Page, plan: &[u8], names: Names, night: Night, f: Fault) -> Page {
-    let wide = columns(names, list::jobs(list_of(plan)));
+pub fn put_slots(page: Page, night: Night, f: Fault) -> Page {
+    let columns = Columns::new(night.plan);
     let said = page
         .end()
         .line(b"A night on which it happens, where the jobs need:");
-    slots(
-        needs(said, plan, names, night, wide),
-        plan,
-        names,
-        wide,
-        night,
-        f,
-    )
+    columns.put_slots(columns.put_needs(said, &night), night, f)
 }

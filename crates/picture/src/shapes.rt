@@ -1,10 +1,9 @@
 // The shapes of a picture, and its text.
 use jobtext::Names;
-use page::{Page, plus};
+use page::Page;
 
 // How each kind looks.
-const STYLE: [u8; 410] =
-    *b"<style>text{font:13px ui-monospace,Menlo,Consolas,monospace;fill:#1f2933}
+const STYLE: &[u8] = b"<style>text{font:13px ui-monospace,Menlo,Consolas,monospace;fill:#1f2933}
 .head{font-size:15px;font-weight:bold}.title{font-weight:bold}.small{font-size:11px;fill:#7b8794}
 .name{text-anchor:end}.back{fill:#fff}.window{fill:#eef1f5}.high{fill:#e8590c}.low{fill:#1c7ed6}
 .grid{stroke:#e4e7eb}.bracket{fill:none;stroke:#7b8794;stroke-width:1.5}
@@ -21,10 +20,22 @@ fn element(page: Page, kind: &[u8], class: &[u8]) -> Page {
     page.put(kind).put(b" class=\"").put(class)
 }
 
-pub fn rectangle(page: Page, class: &[u8], x: usize, y: usize, w: usize, h: usize) -> Page {
-    let at = attribute(element(page, b"<rect", class), b"\" x=\"", x);
-    let across = attribute(attribute(at, b" y=\"", y), b" width=\"", w);
-    attribute(across, b" height=\"", h).line(b" rx=\"3\"/>")
+// An upright rectangle, by its upper left corner.
+#[derive(Clone, Copy)]
+pub struct Rectangle {
+    pub x: usize,
+    pub y: usize,
+    pub width: usize,
+    pub height: usize,
+}
+
+impl Rectangle {
+    pub fn put(self, page: Page, class: &[u8]) -> Page {
+        let at = attribute(element(page, b"<rect", class), b"\" x=\"", self.x);
+        let down = attribute(at, b" y=\"", self.y);
+        let across = attribute(down, b" width=\"", self.width);
+        attribute(across, b" height=\"", self.height).line(b" rx=\"3\"/>")
+    }
 }
 
 // A line downwards.
@@ -49,32 +60,20 @@ pub fn label(page: Page, class: &[u8], x: usize, y: usize, s: &[u8]) -> Page {
 }
 
 // A byte of a name.
-fn letter(page: Page, x: u8) -> Page {
-    if x == b'<' {
-        return page.put(b"&lt;");
+fn put_letter(page: Page, x: u8) -> Page {
+    match x {
+        b'<' => page.put(b"&lt;"),
+        b'>' => page.put(b"&gt;"),
+        b'&' => page.put(b"&amp;"),
+        _ => page.put(&[x]),
     }
-    if x == b'>' {
-        return page.put(b"&gt;");
-    }
-    if x == b'&' {
-        return page.put(b"&amp;");
-    }
-    page.put(&[x])
 }
 
-fn letters(page: Page, names: Names, j: usize) -> Page {
-    let mut to = page;
-    for i in 0..names.size(j) {
-        to = letter(to, names.letter(j, i));
-    }
-    to
-}
-
-pub fn name(page: Page, names: Names, j: usize) -> Page {
+pub fn name(page: Page, names: &Names, j: usize) -> Page {
     if names.size(j) == 0 {
         return names.put(page, j);
     }
-    letters(page, names, j)
+    (0..names.size(j)).fold(page, |to, i| put_letter(to, names.letter(j, i)))
 }
 
 // A bracket: an upright with a short arm at each end.
@@ -83,7 +82,7 @@ pub(crate) fn bracket(page: Page, x: usize, y: usize, arm: &[u8], back: &[u8]) -
         .put(b"<path class=\"bracket\" d=\"M")
         .number(x)
         .put(b" ")
-        .number(plus(y, 1));
+        .number(y.saturating_add(1));
     corner.put(arm).put(b"v22").put(back).line(b"\"/>")
 }
 
@@ -93,18 +92,25 @@ fn size(page: Page, w: usize, h: usize) -> Page {
     attribute(fixed.put(b" viewBox=\"0 0 ").number(w), b" ", h)
 }
 
-pub fn head(page: Page, w: usize, h: usize) -> Page {
-    let opened = size(page.put(b"<svg xmlns=\"http://www.w3.org/2000/svg\""), w, h);
-    rectangle(opened.line(b">").put(&STYLE), b"back", 0, 0, w, h)
+pub fn head(page: Page, width: usize, height: usize) -> Page {
+    let opened = page.put(b"<svg xmlns=\"http://www.w3.org/2000/svg\"");
+    let styled = size(opened, width, height).line(b">").put(STYLE);
+    let back = Rectangle {
+        x: 0,
+        y: 0,
+        width,
+        height,
+    };
+    back.put(styled, b"back")
 }
 
 // What a colour says.
 pub fn key(page: Page, class: &[u8], x: usize, s: &[u8]) -> Page {
-    label(
-        rectangle(page, class, x, 46, 18, 14),
-        b"key",
-        plus(x, 24),
-        58,
-        s,
-    )
+    let colour = Rectangle {
+        x,
+        y: 46,
+        width: 18,
+        height: 14,
+    };
+    label(colour.put(page, class), b"key", x.saturating_add(24), 58, s)
 }

@@ -1,9 +1,8 @@
 // A sheet of slots and jobs: where each slot and row begins, its numbers, and the windows of the jobs.
-use crate::shapes::{bracket, name, rectangle, text_at, text_end, upright};
-use drawing::plan::list_of;
-use joblist::{MOST_JOBS, MOST_SLOTS};
-use jobtext::{Names, list};
-use page::{Page, less, plus};
+use crate::shapes::{Rectangle, bracket, name, text_at, text_end, upright};
+use drawing::plan::{Plan, Table};
+use jobtext::list;
+use page::Page;
 
 // Where slot 0 begins at least, and where the first row of table LO begins.
 const LEFT: usize = 150;
@@ -22,166 +21,183 @@ const FILLED: usize = 18;
 
 const BETWEEN: usize = 64;
 
-// The measures of a picture: where slot 0 begins, the width of a slot, and the rows of a table.
+// How wide slots are drawn: the more there are, the narrower.
 #[derive(Clone, Copy)]
-pub struct Sheet {
-    left: usize,
-    pub wide: usize,
-    pub rows: usize,
+enum Scale {
+    Wide,
+    Middle,
+    Narrow,
 }
 
-impl Sheet {
-    pub fn new(plan: &[u8], names: Names) -> Self {
-        let list = list_of(plan);
-        let rows = list::jobs(list);
+impl Scale {
+    fn of(slots: usize) -> Self {
+        match slots {
+            0..=16 => Scale::Wide,
+            17..=40 => Scale::Middle,
+            _ => Scale::Narrow,
+        }
+    }
+
+    // The width of a slot.
+    fn width(self) -> usize {
+        match self {
+            Scale::Wide => 48,
+            Scale::Middle => 24,
+            Scale::Narrow => 8,
+        }
+    }
+
+    // Whether slot t has its number over it.
+    fn is_numbered(self, t: usize) -> bool {
+        match self {
+            Scale::Wide => true,
+            Scale::Middle => t % 2 == 0,
+            Scale::Narrow => t % 8 == 0,
+        }
+    }
+}
+
+// The height of so many rows.
+fn height(rows: usize) -> usize {
+    rows.saturating_mul(ROW)
+}
+
+// The measures of a picture: where slot 0 begins, and how wide slots are.
+#[derive(Clone, Copy)]
+pub struct Sheet<'a> {
+    pub plan: Plan<'a>,
+    left: usize,
+    scale: Scale,
+}
+
+// The room to the left of slot 0: for the longest name.
+fn margin(plan: Plan) -> usize {
+    plan.jobs().fold(LEFT, |most, j| {
+        let letters = plan.names.width(j).saturating_mul(LETTER);
+        most.max(letters.saturating_add(MARGIN))
+    })
+}
+
+impl<'a> Sheet<'a> {
+    pub fn new(plan: Plan<'a>) -> Self {
         Sheet {
-            left: margin(names, rows),
-            wide: width(list::slots(list)),
-            rows: rows,
+            plan,
+            left: margin(plan),
+            scale: Scale::of(list::slots(plan.list())),
         }
     }
 
     // Where slot t begins.
     pub fn x_of(self, t: usize) -> usize {
-        plus(self.left, across(t, self.wide))
+        self.left
+            .saturating_add(t.saturating_mul(self.scale.width()))
     }
 
-    // Where row k of a table begins.
-    pub fn y_of(self, is_high: bool, k: usize) -> usize {
-        let y = plus(TOP, down(k));
-        if is_high {
-            return plus(y, plus(BETWEEN, down(self.rows)));
+    // Where the last slot ends.
+    pub fn end(self) -> usize {
+        self.x_of(list::slots(self.plan.list()))
+    }
+
+    // One of its tables: LO, or HI under it.
+    pub fn grid(self, table: Table) -> Grid<'a> {
+        let under = height(list::jobs(self.plan.list()));
+        Grid {
+            sheet: self,
+            table,
+            top: match table {
+                Table::Low => TOP,
+                Table::High => under.saturating_add(TOP + BETWEEN),
+            },
         }
-        y
     }
 }
 
-// The width of a slot, where there are l.
-fn width(l: usize) -> usize {
-    if l <= 16 {
-        return 48;
-    }
-    if l <= 40 {
-        return 24;
-    }
-    8
+// A table of a sheet, and where its first row begins.
+#[derive(Clone, Copy)]
+pub struct Grid<'a> {
+    pub sheet: Sheet<'a>,
+    table: Table,
+    pub top: usize,
 }
 
-// t slots, or letters, of width w.
-fn across(t: usize, w: usize) -> usize {
-    if MOST_SLOTS < t {
-        return 0;
+impl Grid<'_> {
+    // Where row k begins.
+    pub fn y_of(self, k: usize) -> usize {
+        self.top.saturating_add(height(k))
     }
-    if w == 48 {
-        return 48 * t;
-    }
-    if w == 24 {
-        return 24 * t;
-    }
-    8 * t
-}
 
-// k rows.
-fn down(k: usize) -> usize {
-    if MOST_JOBS < k {
-        return 0;
+    // Where the last row ends.
+    pub fn bottom(self) -> usize {
+        self.y_of(list::jobs(self.sheet.plan.list()))
     }
-    ROW * k
-}
 
-pub fn larger(a: usize, b: usize) -> usize {
-    if a < b {
-        return b;
+    // Whether a job has a slot.
+    pub fn has(self, j: usize, t: usize) -> bool {
+        self.sheet.plan.entry(self.table, t) == j
     }
-    a
-}
 
-// The room to the left of slot 0: for the longest of n names.
-fn margin(names: Names, n: usize) -> usize {
-    let mut most = LEFT;
-    for j in 0..n {
-        most = larger(most, plus(MARGIN, across(names.width(j), LETTER)));
+    // The number over slot t, with a fine line down the table.
+    fn put_number(self, page: Page, t: usize) -> Page {
+        let x = self.sheet.x_of(t);
+        let line = upright(page, b"grid", x, self.top.saturating_sub(8), self.bottom());
+        let y = self.top.saturating_sub(10);
+        text_end(text_at(line, b"small", x.saturating_add(3), y).number(t))
     }
-    most
-}
 
-// Whether slot t has its number over it, where slots are w wide.
-fn is_numbered(w: usize, t: usize) -> bool {
-    if w == 48 {
-        return true;
+    pub fn put_numbers(self, page: Page) -> Page {
+        let numbered = self
+            .sheet
+            .plan
+            .slots()
+            .filter(|t| self.sheet.scale.is_numbered(*t));
+        numbered.fold(page, |to, t| self.put_number(to, t))
     }
-    if w == 24 {
-        return t % 2 == 0;
+
+    // A job's window, from its arrival to its deadline.
+    fn put_window(self, page: Page, j: usize) -> Page {
+        let list = self.sheet.plan.list();
+        let y = self.y_of(j);
+        let from = self.sheet.x_of(list::arrival(list, j));
+        let to = self.sheet.x_of(list::deadline(list, j));
+        let inside = Rectangle {
+            x: from,
+            y: y.saturating_add(3),
+            width: to.saturating_sub(from),
+            height: FILLED,
+        };
+        let opened = bracket(
+            inside.put(page, b"window"),
+            from.saturating_add(5),
+            y,
+            b"h-5",
+            b"h5",
+        );
+        bracket(opened, to.saturating_sub(5), y, b"h5", b"h-5")
     }
-    t % 8 == 0
-}
 
-// The number over slot t, with a fine line down the table.
-fn number(page: Page, sheet: Sheet, is_high: bool, t: usize) -> Page {
-    if !is_numbered(sheet.wide, t) {
-        return page;
+    // The name of a job before its window.
+    pub fn put_row(self, page: Page, j: usize) -> Page {
+        let x = self.sheet.left.saturating_sub(12);
+        let label = text_at(page, b"name", x, self.y_of(j).saturating_add(17));
+        self.put_window(text_end(name(label, self.sheet.plan.names, j)), j)
     }
-    let x = sheet.x_of(t);
-    let y = sheet.y_of(is_high, 0);
-    let to = upright(
-        page,
-        b"grid",
-        x,
-        less(y, 8),
-        sheet.y_of(is_high, sheet.rows),
-    );
-    text_end(text_at(to, b"small", plus(x, 3), less(y, 10)).number(t))
-}
 
-pub fn numbers(page: Page, plan: &[u8], sheet: Sheet, is_high: bool) -> Page {
-    let mut to = page;
-    for t in 0..list::slots(list_of(plan)) {
-        to = number(to, sheet, is_high, t);
+    // A slot of a job's row.
+    pub fn put_slot(self, page: Page, class: &[u8], j: usize, t: usize) -> Page {
+        let slot = Rectangle {
+            x: self.sheet.x_of(t).saturating_add(1),
+            y: self.y_of(j).saturating_add(3),
+            width: self.sheet.scale.width().saturating_sub(2),
+            height: FILLED,
+        };
+        slot.put(page, class)
     }
-    to
-}
 
-// A job's window, from its arrival to its deadline.
-fn window(page: Page, plan: &[u8], sheet: Sheet, is_high: bool, j: usize) -> Page {
-    let list = list_of(plan);
-    let y = sheet.y_of(is_high, j);
-    let from = sheet.x_of(list::arrival(list, j));
-    let to = sheet.x_of(list::deadline(list, j));
-    let inside = rectangle(page, b"window", from, plus(y, 3), less(to, from), FILLED);
-    let opened = bracket(inside, plus(from, 5), y, b"h-5", b"h5");
-    bracket(opened, less(to, 5), y, b"h5", b"h-5")
-}
-
-// The name of a job before its window.
-pub fn window_row(
-    page: Page,
-    plan: &[u8],
-    names: Names,
-    sheet: Sheet,
-    is_high: bool,
-    j: usize,
-) -> Page {
-    let y = plus(sheet.y_of(is_high, j), 17);
-    let label = text_at(page, b"name", less(sheet.left, 12), y);
-    window(text_end(name(label, names, j)), plan, sheet, is_high, j)
-}
-
-// A slot of a job's row.
-pub fn slot_box(page: Page, class: &[u8], sheet: Sheet, is_high: bool, j: usize, t: usize) -> Page {
-    rectangle(
-        page,
-        class,
-        plus(sheet.x_of(t), 1),
-        plus(sheet.y_of(is_high, j), 3),
-        less(sheet.wide, 2),
-        FILLED,
-    )
-}
-
-// A slot in the colour of the job's level.
-pub fn filled(page: Page, plan: &[u8], sheet: Sheet, is_high: bool, j: usize, t: usize) -> Page {
-    if list::is_high(list_of(plan), j) {
-        return slot_box(page, b"high", sheet, is_high, j, t);
+    // A slot in the colour of the job's level.
+    pub fn put_filled(self, page: Page, j: usize, t: usize) -> Page {
+        if list::is_high(self.sheet.plan.list(), j) {
+            return self.put_slot(page, b"high", j, t);
+        }
+        self.put_slot(page, b"low", j, t)
     }
-    slot_box(page, b"low", sheet, is_high, j, t)
 }

@@ -185,33 +185,34 @@ static REFUSALS: [Refusal; 35] = [
     },
 ];
 
-// What to look up of a number; none where no refusal has it.
-fn with_number(number: usize) -> Option<&'static Refusal> {
-    REFUSALS.iter().find(|r| r.number == number)
+// What stands for a number that no refusal has.
+static NO_REFUSAL: Refusal = Refusal {
+    number: 0,
+    meaning: "",
+    advice: "",
+};
+
+fn of_number(number: usize) -> &'static Refusal {
+    REFUSALS
+        .iter()
+        .find(|r| r.number == number)
+        .unwrap_or(&NO_REFUSAL)
 }
 
 // What a number means; nothing where no refusal has it.
 pub fn meaning(page: Page, number: usize) -> Page {
-    match with_number(number) {
-        Some(r) => page.put(r.meaning.as_bytes()),
-        None => page,
-    }
+    page.put(of_number(number).meaning.as_bytes())
 }
 
 // What to do about it.
 pub fn advice(page: Page, number: usize) -> Page {
-    match with_number(number) {
-        Some(r) => page.put(r.advice.as_bytes()),
-        None => page,
-    }
+    page.put(of_number(number).advice.as_bytes())
 }
 
 fn put_refusal(page: Page, r: &Refusal) -> Page {
-    let said = page
-        .number_right(r.number, 4)
-        .blank(2)
-        .line(r.meaning.as_bytes());
-    said.blank(6).put(b"do: ").line(r.advice.as_bytes())
+    let said = page.number_right(r.number, 4).blank(2);
+    let to = said.line(r.meaning.as_bytes()).blank(6);
+    to.put(b"do: ").line(r.advice.as_bytes())
 }
 
 // All of them.
