@@ -12,16 +12,13 @@ use mathlib.Core.List.{List}
 use mathlib.Core.Path.{◌≡◌, refl}
 use Prim.Native.Nat.{ℕ, ◌+◌, ◌≤◌, ◌<◌}
 use Rattle.late.specs.Table.{entry, units, waits}
-use Rattle.late.specs.declared.Late.{Late}
-use Rattle.late.specs.declared.Late.TheVariants.{Fine, At}
-use Rattle.late.specs.Late.{or_else, late_at, takes, unfinished, chosen, late_in, late_answer}
+use Rattle.std.specs.Prelude.{Ok}
+use Rattle.std.specs.Result.{result_and}
+use Rattle.late.specs.Late.{at, late_at, takes, unfinished, chosen, late_in, late_answer}
 use Rattle.basics.proofs.Below.{any_found, any_hit}
 use Rattle.basics.proofs.Turns.{turns_each}
+use Rattle.late.proofs.Lateness.{both_ok}
 use Rattle.late.proofs.EdfTable.{units_later, owed, free, edf_most}
-
-fine_both : (x y : Late) → or_else x y ≡ Fine → (x ≡ Fine) × (y ≡ Fine)
-fine_both Fine y h = (refl, h)
-fine_both (At t j) y h = let z : ◌≡◌ {A = ℕ} 0 1 = cc in absurd (omega arith)
 
 any_miss : (f : ℕ → Bool) (n i : ℕ) → any_below f n ≡ false → i < n → f i ≡ false
 any_miss f n i h l = go (f i) refl
@@ -48,17 +45,17 @@ module _ (s : List ℕ) (v : ℕ) (few : jobs s ≤ 254) (table : List ℕ) (Cho
       let w = rw (eqb-true p (entry table t) b) at u in
       omega (arith, owed s v few table Chosen-at t h ht, units_later table (entry table t) x t l)
 
-  module _ (fine : late_answer s v table ≡ Fine) where
+  module _ (fine : late_answer s v table ≡ Ok tt) where
     -- at the opening of its deadline a job has all its units
     pub done_by : (j : ℕ) → j < jobs s → deadline s j ≤ slots s → takes s v j ≤ units table (deadline s j) j
     unfolding late_answer late_at unfinished
     done_by j l d =
-        let a = turns_each or_else Fine fine_both (late_in s v table) (slots s + 1) (deadline s j) fine (omega arith) in
-        let b = turns_each or_else Fine fine_both _ (jobs s) j a l in
+        let a = turns_each result_and (Ok tt) both_ok (late_in s v table) (slots s + 1) (deadline s j) fine (omega arith) in
+        let b = turns_each result_and (Ok tt) both_ok _ (jobs s) j a l in
         go (dec_lt (units table (deadline s j) j) (takes s v j)) b
       where
         go : Dec (units table (deadline s j) j < takes s v j)
-            → cond (eqb (deadline s j) (deadline s j) && ltb (units table (deadline s j) j) (takes s v j)) (At (deadline s j) j) Fine ≡ Fine
+            → cond (eqb (deadline s j) (deadline s j) && ltb (units table (deadline s j) j) (takes s v j)) (at (deadline s j) j) (Ok tt) ≡ Ok tt
             → takes s v j ≤ units table (deadline s j) j
         go (yes p) q =
             let w = rw (eq-eqb (deadline s j) (deadline s j) refl, lt-ltb _ _ p) at q in

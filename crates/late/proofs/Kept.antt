@@ -16,7 +16,7 @@ use mathlib.Core.List.{List}
 use mathlib.Core.Path.{◌≡◌, refl, ap, ap₂, ◌∙◌}
 use Prim.Native.Nat.{ℕ, zero, suc, ◌+◌, ◌≤◌, ◌<◌, min}
 use Rattle.late.specs.Table.{entry, units, all_idle, held}
-use Rattle.late.specs.declared.Late.TheVariants.{Fine}
+use Rattle.std.specs.Prelude.{Ok}
 use Rattle.late.specs.Late.{late_table, first_unit, first_units, late_of, takes, tlo, thi}
 use Rattle.late.specs.Meaning.{FirstOfEach}
 use Rattle.late.proofs.Units.{one, units_step, units_zero}
@@ -73,11 +73,11 @@ module _ (s table : List ℕ) (few : jobs s ≤ 254) where
         (omega (arith, first_one t))
 
 module _ (lim : Limits) (s : List ℕ) (acc : Accepted lim s) (few : jobs s ≤ 254) (j : ℕ) (l : j < jobs s) where
-  pub tlo_units : late_of s 0 ≡ Fine → units (tlo s) (slots s) j ≡ takes s 0 j
+  pub tlo_units : late_of s 0 ≡ Ok tt → units (tlo s) (slots s) j ≡ takes s 0 j
   unfolding tlo
   tlo_units fine = (late_table_lem lim s acc few 0 fine).exact j l
 
-  pub thi_units : late_of s 1 ≡ Fine → units (thi s) (slots s) j ≡ min (takes s 1 j) (ordinary s j)
+  pub thi_units : late_of s 1 ≡ Ok tt → units (thi s) (slots s) j ≡ min (takes s 1 j) (ordinary s j)
   unfolding thi
   thi_units fine =
       first_units_lem s (late_table s 1 (all_idle s)) few j l (slots s) (slots s) (omega arith) (omega (arith, late_long s 1 (all_idle s), length-replicate (slots s) idle))
@@ -95,7 +95,7 @@ module _ (lim : Limits) (s : List ℕ) (acc : Accepted lim s) (few : jobs s ≤ 
           let e : level s j ≡ 1 = omega arith in
           rw (takes, e) (omega arith)
 
-  pub late_units : late_of s 0 ≡ Fine → late_of s 1 ≡ Fine → units (tlo s) (slots s) j + units (thi s) (slots s) j ≡ ordinary s j
+  pub late_units : late_of s 0 ≡ Ok tt → late_of s 1 ≡ Ok tt → units (tlo s) (slots s) j + units (thi s) (slots s) j ≡ ordinary s j
   late_units a b = ap₂ ◌+◌ (tlo_units a) (thi_units b) ∙ both_levels
 
 -- THI keeps the first CLO units of each high job

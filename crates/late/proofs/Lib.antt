@@ -1,3 +1,4 @@
+pub mod Search
 pub mod Marks
 pub mod Units
 pub mod Earliest

@@ -11,8 +11,10 @@ use lib.ListN.{length, get_or, set, replicate, length-set}
 use lib.Seq.{get_or-set_same, get_or-set_other}
 use lib.Dec.{eqb}
 use Rattle.basics.specs.Below.{any_below}
-use Rattle.basics.proofs.Below.{any_zero, any_step}
-use Rattle.joblist.specs.Fields.{jobs, edge_from, edge_to}
+use Rattle.basics.proofs.Below.{any_zero, any_step, any_same}
+use Rattle.std.proofs.Math.Bool.{and_comm}
+use Rattle.joblist.specs.Fields.{jobs, edges, edge_from, edge_to, edge_in}
+use Rattle.joblist.specs.Cycle.{reached}
 use Rattle.late.specs.Table.{marked}
 
 -- job j is marked where one of the first e edges marks it: edge i marks it where f i j
@@ -47,18 +49,24 @@ module _ (f : ℕ → ℕ → Bool) where
             ap (marked (set r q true)) p ∙ get_or-set_same r q true false (let h = m.long in omega arith) ∙ sym (step j true (ap (f e) p ∙ this))
         go j (no p) = get_or-set_other r q j true false p ∙ m.same j ∙ sym (step j false (others j p))
 
--- edge e comes to job j from an undone job
-abbrev pub comes : List ℕ → List Bool → ℕ → ℕ → Bool
-comes s undone e j = eqb (edge_to s (jobs s) e) j && marked undone (edge_from s (jobs s) e)
+-- edge e comes to job j from a job that passes
+abbrev pub comes : List ℕ → (ℕ → Bool) → ℕ → ℕ → Bool
+comes s test e j = eqb (edge_to s (jobs s) e) j && test (edge_from s (jobs s) e)
 
-module _ (s : List ℕ) (undone r : List Bool) (e : ℕ) (m : Marks (comes s undone) r e) where
-  pub comes_yes : edge_to s (jobs s) e < 64 → marked undone (edge_from s (jobs s) e) ≡ true → Marks (comes s undone) (set r (edge_to s (jobs s) e) true) (e + 1)
+module _ (s : List ℕ) (test : ℕ → Bool) (r : List Bool) (e : ℕ) (m : Marks (comes s test) r e) where
+  pub comes_yes : edge_to s (jobs s) e < 64 → test (edge_from s (jobs s) e) ≡ true → Marks (comes s test) (set r (edge_to s (jobs s) e) true) (e + 1)
   comes_yes l p =
-      marks_one (comes s undone) r e m (edge_to s (jobs s) e) l (rw (eq-eqb (edge_to s (jobs s) e) (edge_to s (jobs s) e) refl, p))
+      marks_one (comes s test) r e m (edge_to s (jobs s) e) l (rw (eq-eqb (edge_to s (jobs s) e) (edge_to s (jobs s) e) refl, p))
       (λ j q. rw (ne_eqb (edge_to s (jobs s) e) j (λ h. q (sym h))))
 
-  pub comes_no : marked undone (edge_from s (jobs s) e) ≡ false → Marks (comes s undone) r (e + 1)
-  comes_no p = marks_skip (comes s undone) r e m (λ j. rw p (and-false (eqb (edge_to s (jobs s) e) j)))
+  pub comes_no : test (edge_from s (jobs s) e) ≡ false → Marks (comes s test) r (e + 1)
+  comes_no p = marks_skip (comes s test) r e m (λ j. rw p (and-false (eqb (edge_to s (jobs s) e) j)))
+
+-- where the test is to be job j, these are its successors
+pub comes_next : (s : List ℕ) (j q : ℕ) → reached s (jobs s) (edges s) (λ p. eqb p j) q ≡ edge_in s (jobs s) (edges s) j q
+unfolding edge_in
+comes_next s j q =
+    any_same _ _ (edges s) (λ e h. and_comm (eqb (edge_to s (jobs s) e) q) (eqb (edge_from s (jobs s) e) j))
 
 -- marks set one job after the other
 pub record Filled (f : ℕ → Bool) (r : List Bool) (k : ℕ) : Type 0 where
@@ -75,16 +83,3 @@ module _ (f : ℕ → Bool) where
       go : (j : ℕ) → j < k + 1 → Dec (j ≡ k) → marked (set r k b) j ≡ f j
       go j h (yes p) = ap (marked (set r k b)) p ∙ get_or-set_same r k b false (let q = m.long in omega arith) ∙ e ∙ sym (ap f p)
       go j h (no p) = get_or-set_other r k j b false p ∙ m.same j (omega arith)
-
--- edge e goes from job j to job q
-abbrev pub goes : List ℕ → ℕ → ℕ → ℕ → Bool
-goes s j e q = eqb (edge_from s (jobs s) e) j && eqb (edge_to s (jobs s) e) q
-
-module _ (s : List ℕ) (j : ℕ) (r : List Bool) (e : ℕ) (m : Marks (goes s j) r e) where
-  pub goes_yes : edge_to s (jobs s) e < 64 → edge_from s (jobs s) e ≡ j → Marks (goes s j) (set r (edge_to s (jobs s) e) true) (e + 1)
-  goes_yes l p =
-      marks_one (goes s j) r e m (edge_to s (jobs s) e) l (rw (eq-eqb (edge_from s (jobs s) e) j p, eq-eqb (edge_to s (jobs s) e) (edge_to s (jobs s) e) refl))
-      (λ q h. rw (ne_eqb (edge_to s (jobs s) e) q (λ i. h (sym i))) (and-false (eqb (edge_from s (jobs s) e) j)))
-
-  pub goes_no : ¬ (edge_from s (jobs s) e ≡ j) → Marks (goes s j) r (e + 1)
-  goes_no p = marks_skip (goes s j) r e m (λ q. rw (ne_eqb (edge_from s (jobs s) e) j p))

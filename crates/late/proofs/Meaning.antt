@@ -14,7 +14,7 @@ use mathlib.Core.Logic.{inl, inr}
 use mathlib.Core.Path.{◌≡◌, ◌∙◌}
 use Prim.Native.Nat.{ℕ, ◌-◌, ◌≤◌, ◌<◌}
 use Rattle.late.specs.Table.{entry, all_idle, held}
-use Rattle.late.specs.declared.Late.TheVariants.{Fine}
+use Rattle.std.specs.Prelude.{Ok}
 use Rattle.late.specs.Late.{chosen, late_answer, late_table, late_of}
 use Rattle.late.specs.Meaning.{filled, after, Chosen, Serves, LateTable}
 use Rattle.late.proofs.Earliest.{edf_long}
@@ -37,8 +37,8 @@ module _ (lim : Limits) (s : List ℕ) (acc : Accepted lim s) (few : jobs s ≤ 
     | inr c ↦ record { best = λ l. c; none = λ l. absurd (omega (arith, c.below)) }
   ]
 
-  module _ (fine : late_of s v ≡ Fine) where
-    fine_filled : late_answer s v (filled s v) ≡ Fine
+  module _ (fine : late_of s v ≡ Ok tt) where
+    fine_filled : late_answer s v (filled s v) ≡ Ok tt
     unfolding late_of
     fine_filled = fine
 

@@ -18,7 +18,7 @@ use mathlib.Core.Path.{◌≡◌, refl, ap, ◌∙◌}
 use Prim.Native.Nat.{ℕ, zero, suc, ◌+◌, ◌-◌, ◌≤◌, ◌<◌}
 use Rattle.basics.proofs.Tests.{and_both, not_both}
 use Rattle.late.specs.Table.{entry, held, empty}
-use Rattle.late.specs.declared.Late.TheVariants.{Fine}
+use Rattle.std.specs.Prelude.{Ok}
 use Rattle.late.specs.Meaning.{Ordered}
 use Rattle.late.specs.Late.{chosen, late_answer, holds_next, target, move, moved}
 use Rattle.late.proofs.EdfTable.{arrived}
@@ -27,7 +27,7 @@ use Rattle.late.proofs.Moving.{move_held, move_idle, moved_zero, moved_step, low
 use Rattle.late.proofs.Later.{lowest_above, lowest_miss, highest_above, cleared}
 
 module _ (lim : Limits) (s : List ℕ) (acc : Accepted lim s) (few : jobs s ≤ 254) (v : ℕ) (filled : List ℕ) (size : length filled ≡ slots s)
-    (Chosen-at : (x : ℕ) → x < slots s → entry filled x ≡ chosen s v filled x) (fine : late_answer s v filled ≡ Fine) where
+    (Chosen-at : (x : ℕ) → x < slots s → entry filled x ≡ chosen s v filled x) (fine : late_answer s v filled ≡ Ok tt) where
   -- when the last k slots had their turn: the others are as they were, the units in those stand in their windows, and no unit of a job stands at or past one of its successor
   pub record Stage (k : ℕ) (table : List ℕ) : Type 0 where
     pub long : length table ≡ slots s

@@ -1,6 +1,7 @@
 -- Late tables, of one level v: the low level is 0, the high level 1. The list is its bytes s.
 -- Assumes nothing.
-use Rattle.std.specs.Prelude.{ℕ, zero, suc, ◌+◌, ◌-◌, List, Bool, cond, not, ◌&&◌, set, leb, ltb, eqb}
+use Rattle.std.specs.Prelude.{ℕ, zero, suc, ◌+◌, ◌-◌, List, Bool, cond, not, ◌&&◌, set, leb, ltb, eqb, Result, Ok, Err}
+use Rattle.std.specs.Result.{result_and}
 use Rattle.basics.specs.Choice.{earliest}
 use Rattle.basics.specs.Turns.{turns}
 use Rattle.basics.specs.Find.{lowest, highest}
@@ -8,12 +9,10 @@ use Rattle.joblist.specs.Fields.{jobs, edges, slots, arrival, deadline, ordinary
 use Rattle.basics.specs.Marks.{idle}
 use Rattle.late.specs.Table.{entry, units, all_idle, held, empty, waits}
 use Rattle.late.specs.declared.Late.{Late}
-use Rattle.late.specs.declared.Late.TheVariants.{Fine, At}
 
--- the first answer, unless it is Fine
-abbrev pub or_else : Late → Late → Late
-or_else Fine y = y
-or_else (At t j) y = At t j
+-- job j is late at slot t
+abbrev pub at : ℕ → ℕ → Result (Unit {0}) Late
+at t j = Err (record { slot = t; job = j })
 
 module _ (s : List ℕ) where
   -- job j has arrived, is unfinished (undone) and has all predecessors finished
@@ -21,8 +20,8 @@ module _ (s : List ℕ) where
   ready undone t j = leb (arrival s j) t && (undone j && not (waits s undone j))
 
   -- job j has the deadline t, and is unfinished (undone)
-  unfoldable pub late_at : (ℕ → Bool) → ℕ → ℕ → Late
-  late_at undone t j = cond (eqb (deadline s j) t && undone j) (At t j) Fine
+  unfoldable pub late_at : (ℕ → Bool) → ℕ → ℕ → Result (Unit {0}) Late
+  late_at undone t j = cond (eqb (deadline s j) t && undone j) (at t j) (Ok tt)
 
   -- earliest deadline first over one level
   module _ (v : ℕ) where
@@ -47,11 +46,11 @@ module _ (s : List ℕ) where
     edf start = edf_at start (slots s)
 
     -- 20, 21: the first slot (to L) at whose opening a job with that d is unfinished, and the lowest such job
-    abbrev pub late_in : List ℕ → ℕ → Late
-    late_in table t = turns or_else Fine (late_at (unfinished table t) t) (jobs s) 0
+    abbrev pub late_in : List ℕ → ℕ → Result (Unit {0}) Late
+    late_in table t = turns result_and (Ok tt) (late_at (unfinished table t) t) (jobs s) 0
 
-    unfoldable pub late_answer : List ℕ → Late
-    late_answer table = turns or_else Fine (late_in table) (slots s + 1) 0
+    unfoldable pub late_answer : List ℕ → Result (Unit {0}) Late
+    late_answer table = turns result_and (Ok tt) (late_in table) (slots s + 1) 0
 
   -- slot x is held by a successor of job j
   abbrev pub holds_next : List ℕ → ℕ → ℕ → Bool
@@ -86,7 +85,7 @@ module _ (s : List ℕ) where
   first_units table (suc t) = set (first_units table t) t (first_unit table t)
 
   -- 20 and 21, TLO, and THI as first made
-  unfoldable pub late_of : ℕ → Late
+  unfoldable pub late_of : ℕ → Result (Unit {0}) Late
   late_of v = late_answer v (edf v (all_idle s))
 
   unfoldable pub tlo : List ℕ

@@ -7,4 +7,4 @@ use Rattle.late.proofs.Units.{Counted}
 use Rattle.late.proofs.edf.Given as goal
 
 abbrev pub invariant-loop-t : goal.invariant-loop-t
-invariant-loop-t l = (l.out ≡ edf_at l.s l.v l.initial.out l.t) × Counted (jobs l.s) l.had l.out l.t
+invariant-loop-t l = (l.out ≡ edf_at l.list.bytes.now l.v l.initial.out l.t) × Counted (jobs l.list.bytes.now) l.had l.out l.t

@@ -1,4 +1,4 @@
--- At x it is the highest such slot below x.
+-- No slot from x on is empty.
 -- Assumes nothing.
 use Rattle.std.proofs.Common.{◌≡◌}
 use Rattle.basics.specs.Find.{highest}
@@ -6,4 +6,5 @@ use Rattle.late.specs.Table.{empty}
 use Rattle.late.proofs.highest_empty.Given as goal
 
 abbrev pub invariant-loop-x : goal.invariant-loop-x
-invariant-loop-x l = l.r ≡ highest (empty l.s l.table) l.t l.x
+invariant-loop-x l =
+    highest (empty l.list.bytes.now l.table) l.t l.b ≡ highest (empty l.list.bytes.now l.table) l.t l.x

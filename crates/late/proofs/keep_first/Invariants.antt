@@ -6,5 +6,5 @@ use Rattle.late.specs.Late.{first_units}
 use Rattle.late.proofs.Units.{Counted}
 use Rattle.late.proofs.keep_first.Given as goal
 
-abbrev pub invariant-loop-t : goal.invariant-loop-t
-invariant-loop-t l = (l.table ≡ first_units l.s l.initial.table l.t) × Counted (jobs l.s) l.had l.initial.table l.t
+abbrev pub invariant-loop-entry : goal.invariant-loop-entry
+invariant-loop-entry l = (l.table ≡ first_units l.list.bytes.now l.initial.table l.entry-index) × Counted (jobs l.list.bytes.now) l.had l.initial.table l.entry-index

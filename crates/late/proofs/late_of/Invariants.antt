@@ -8,4 +8,4 @@ use Rattle.late.proofs.Lateness.{onward}
 use Rattle.late.proofs.late_of.Given as goal
 
 abbrev pub invariant-loop-t : goal.invariant-loop-t
-invariant-loop-t l = (late_answer l.s l.v l.table ≡ onward l.s l.v l.table l.t) × Counted (jobs l.s) l.had l.table l.t
+invariant-loop-t l = (late_answer l.list.bytes.now l.v l.table ≡ onward l.list.bytes.now l.v l.table l.t) × Counted (jobs l.list.bytes.now) l.had l.table l.t

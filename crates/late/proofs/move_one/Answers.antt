@@ -7,9 +7,9 @@ use Rattle.late.proofs.move_one.Goals as goal
 
 pub returns-then-j-jobs_of : goal.returns-then-j-jobs_of
 returns-then-j-jobs_of c =
-    let j = c.wide-j.ensures.0 in
+    let j = c.from-j.ensures in
     let h = rw (j, c.jobs_of.ensures.0) at (lt-ltb _ _ c.if-j-jobs_of.true) in
-    sym (move_held c.args.s.now c.args.table.now c.args.own h ∙ rw (← j, ← c.target_of-x.ensures.0) refl)
+    sym (move_held c.args.list.bytes.now c.args.table.now c.args.own h ∙ rw (← j, ← c.target_of-x.ensures.0) refl)
 
 pub returns-else-j-jobs_of : goal.returns-else-j-jobs_of
-returns-else-j-jobs_of c = sym (move_idle _ _ _ (rw (c.wide-j.ensures.0, c.jobs_of.ensures.0) at (le-ltb _ _ c.if-j-jobs_of.false)))
+returns-else-j-jobs_of c = sym (move_idle _ _ _ (rw (c.from-j.ensures, c.jobs_of.ensures.0) at (le-ltb _ _ c.if-j-jobs_of.false)))
