@@ -1,15 +1,19 @@
 -- Laws of one more job, one more round and one more edge.
 -- Assumes nothing.
-use Prim.Native.Nat.{ℕ, ◌+◌, ◌<◌, max}
+use Prim.Native.Nat.{ℕ, zero, suc, ◌+◌, ◌≤◌, ◌<◌, max}
 use mathlib.Core.Path.{◌≡◌, refl, sym, ap, ◌∙◌}
 use mathlib.Core.List.{List}
-use mathlib.Core.Bool.{Bool, true, false, ◌&&◌, and-false}
+use mathlib.Core.Bool.{Bool, true, false, beq, ◌&&◌, ◌||◌, and-false}
 use native.Mathlib.Numerals.{add-one}
+use native.Mathlib.Omega.{arith}
 use native.Mathlib.Decide.{ℕ_discrete}
 use borrow.Author.Tests.{eq-eqb, ne_eqb}
 use lib.Dec.{eqb}
-use lib.ListN.{length, get_or, set}
+use lib.ListN.{length, get_or, set, take}
 use lib.Seq.{get_or-set_same, get_or-set_other}
+use Rattle.std.specs.List.{list_any}
+use Rattle.std.proofs.lemmas.List.Folds.{list_any_more}
+use Rattle.basics.specs.Below.{any_below}
 use Rattle.basics.proofs.Below.{any_step, any_same}
 use Rattle.joblist.specs.Fields.{deadline, edge_from, edge_to}
 use Rattle.joblist.specs.Cycle.{reached, walk, Named}
@@ -36,6 +40,21 @@ module _ (s : List ℕ) (n m : ℕ) where
   pub reached_same : Named s n m → (f g : ℕ → Bool) → ((i : ℕ) → i < n → f i ≡ g i) → (j : ℕ) → reached s n m f j ≡ reached s n m g j
   reached_same named f g same j =
       any_same _ _ m (λ e h. ap (λ x. eqb (edge_to s n e) j && x) (same (edge_from s n e) (named e h).0))
+
+-- whether one of the first n is alive
+pub any_alive : (alive : List Bool) (n : ℕ) → n ≤ length alive → list_any (λ y. beq y true) (take n alive) ≡ any_below (λ i. get_or alive i false) n
+unfolding any_below
+any_alive alive zero h = refl
+any_alive alive (suc n) h =
+    ap (λ k. list_any (λ y. beq y true) (take k alive)) (sym (add-one n))
+    ∙ list_any_more (λ y. beq y true) alive n false (omega arith)
+    ∙ turned (get_or alive n false) _ _ (any_alive alive n (omega arith))
+  where
+    turned : (b x y : Bool) → x ≡ y → (x || beq b true) ≡ (b || y)
+    turned true false y h = refl
+    turned true true y h = refl
+    turned false false y h = h
+    turned false true y h = h
 
 -- one more edge marks the job that it comes to, where the job that it comes from is alive
 module _ (s : List ℕ) (n e : ℕ) (alive next : List Bool) (j : ℕ) (sofar : get_or next j false ≡ reached s n e (λ i. get_or alive i false) j) where

@@ -23,7 +23,7 @@ pub const MOST_SLOTS: usize = 1024;
 pub const MOST_BUDGET: usize = 1024;
 
 // A slot table: one byte a slot, a job number or the idle mark.
-#[derive(Drop)]
+#[derive(Clone, Copy)]
 pub struct Table;
 
 impl Table {
@@ -39,7 +39,7 @@ pub const JOB_BYTES: usize = 10;
 pub const EDGE_BYTES: usize = 2;
 
 // Why a list is refused, with the job or the edge where it has a place.
-#[derive(Clone, Copy)]
+#[derive(Clone, Copy, Debug, PartialEq, Eq)]
 pub enum Why {
     Short,
     Jobs,
@@ -56,7 +56,7 @@ pub enum Why {
 }
 
 // Where a list is refused.
-#[derive(Clone, Copy)]
+#[derive(Clone, Copy, Debug, PartialEq, Eq)]
 pub enum Place {
     Nowhere,
     AtJob(usize),
@@ -137,7 +137,7 @@ pub fn answer_place(a: Result<(), Why>) -> Place
 pub fn wide(x: u8) -> usize
     ensures { (result ≡ x) × (result < 256) }
 {
-    x as usize
+    usize::from(x)
 }
 
 // The 16 bits at i.
@@ -146,7 +146,7 @@ pub fn u16_at(s: &[u8], i: usize) -> usize
     requires { i + 1 < length s.now }
     ensures { (result ≡ u16_at s.now i) × (result < 65536) }
 {
-    wide(s[i]) + 256 * wide(s[i + 1])
+    usize::from(u16::from_le_bytes([s[i], s[i + 1]]))
 }
 
 // The head.
@@ -204,7 +204,7 @@ pub fn level_of(s: &[u8], j: usize) -> usize
     requires { job_at j + job_bytes ≤ length s.now }
     ensures { (result ≡ level s.now j) × (result < 256) }
 {
-    wide(s[HEAD_BYTES + JOB_BYTES * j + 8])
+    usize::from(s[HEAD_BYTES + JOB_BYTES * j + 8])
 }
 
 // Edge e, after n jobs.
@@ -212,37 +212,14 @@ pub fn edge_from(s: &[u8], n: usize, e: usize) -> usize
     requires { edge_at n e + edge_bytes ≤ length s.now }
     ensures { (result ≡ edge_from s.now n e) × (result < 256) }
 {
-    wide(s[HEAD_BYTES + JOB_BYTES * n + EDGE_BYTES * e])
+    usize::from(s[HEAD_BYTES + JOB_BYTES * n + EDGE_BYTES * e])
 }
 
 pub fn edge_to(s: &[u8], n: usize, e: usize) -> usize
     requires { edge_at n e + edge_bytes ≤ length s.now }
     ensures { (result ≡ edge_to s.now n e) × (result < 256) }
 {
-    wide(s[HEAD_BYTES + JOB_BYTES * n + EDGE_BYTES * e + 1])
-}
-
-// Whether edge e comes after the edge before it.
-#[tactic(auto, unfolding(crate::specs::Answer::rising))]
-fn rises(s: &[u8], n: usize, e: usize) -> bool
-    requires { edge_at n e + edge_bytes ≤ length s.now }
-    ensures { result ≡ rising s.now n e }
-{
-    if e == 0 {
-        return true;
-    }
-    let p = edge_from(s, n, e - 1);
-    let q = edge_from(s, n, e);
-    if p < q {
-        return true;
-    }
-    if q < p {
-        return false;
-    }
-    if edge_to(s, n, e - 1) < edge_to(s, n, e) {
-        return true;
-    }
-    false
+    usize::from(s[HEAD_BYTES + JOB_BYTES * n + EDGE_BYTES * e + 1])
 }
 
 // Whether x is from 1 to most.
@@ -250,244 +227,262 @@ fn rises(s: &[u8], n: usize, e: usize) -> bool
 fn in_range(x: usize, most: usize) -> bool
     ensures { result ≡ within most x }
 {
-    if x < 1 {
-        return false;
-    }
-    if most < x {
-        return false;
-    }
-    true
+    (1..=most).contains(&x)
 }
 
-// The counts, and the zero beside them.
-#[tactic(auto, unfolding(crate::specs::Answer::counts_answer))]
-fn check_counts(len: usize, whole: usize, n: usize, m: usize, l: usize, z: usize) -> Result<(), Why>
-    ensures { result ≡ counts_answer first_edition len whole n m l z }
-{
-    if !in_range(n, MOST_JOBS) {
-        return Err(Why::Jobs);
-    }
-    if MOST_EDGES < m {
-        return Err(Why::Edges);
-    }
-    if !in_range(l, MOST_SLOTS) {
-        return Err(Why::Slots);
-    }
-    if len != whole {
-        return Err(Why::Length);
-    }
-    if z != 0 {
-        return Err(Why::Zero);
-    }
-    Ok(())
+// The counts of a list, and the zero beside them.
+#[derive(Clone, Copy)]
+struct Head {
+    jobs: usize,
+    edges: usize,
+    slots: usize,
+    zero: usize,
 }
 
-// The zero bytes of the jobs.
-#[tactic(auto, using(basics::proofs::Chain::turn_good, basics::proofs::Chain::turn_no, basics::proofs::Chain::turn_end), unfolding(crate::specs::Answer::zero_answer))]
-fn check_zeros(s: &[u8], n: usize) -> Result<(), Why>
-    requires { job_at n ≤ length s.now }
-    ensures { result ≡ each n (zero_answer s.now) }
-{
-    for j in 0..n {
-        if s[HEAD_BYTES + JOB_BYTES * j + 9] != 0 {
+impl Head {
+    fn of(s: &[u8]) -> Head
+        requires { head_bytes ≤ length s.now }
+        ensures { result ≡ record { jobs = jobs s.now; edges = edges s.now; slots = slots s.now; zero = head_zero s.now } }
+    {
+        Head {
+            jobs: jobs_of(s),
+            edges: edges_of(s),
+            slots: slots_of(s),
+            zero: u16_at(s, 6),
+        }
+    }
+
+    // Of `len` bytes, where the counts give `whole`.
+    #[tactic(auto, unfolding(crate::specs::Answer::counts_answer))]
+    fn check(self, len: usize, whole: usize) -> Result<(), Why>
+        ensures { result ≡ counts_answer first_edition len whole self.jobs self.edges self.slots self.zero }
+    {
+        if !in_range(self.jobs, MOST_JOBS) {
+            return Err(Why::Jobs);
+        }
+        if MOST_EDGES < self.edges {
+            return Err(Why::Edges);
+        }
+        if !in_range(self.slots, MOST_SLOTS) {
+            return Err(Why::Slots);
+        }
+        if len != whole {
+            return Err(Why::Length);
+        }
+        if self.zero != 0 {
             return Err(Why::Zero);
         }
+        Ok(())
     }
-    Ok(())
 }
 
-// Whether a job may arrive at a and end by d.
-#[tactic(auto, unfolding(crate::specs::Answer::good_times))]
-fn good_times(a: usize, d: usize) -> bool
-    ensures { result ≡ good_times first_edition a d }
-{
-    if d <= a {
-        return false;
-    }
-    if MOST_SLOTS < d {
-        return false;
-    }
-    true
+// A job's fields.
+#[derive(Clone, Copy)]
+struct Job {
+    arrival: usize,
+    deadline: usize,
+    ordinary: usize,
+    high: usize,
+    level: usize,
 }
 
-// Whether a job of level v may have the budgets lo and hi.
-#[tactic(auto, unfolding(crate::specs::Answer::good_budgets))]
-fn good_budgets(v: usize, lo: usize, hi: usize) -> bool
-    ensures { result ≡ good_budgets first_edition v lo hi }
-{
-    if lo < 1 {
-        return false;
+impl Job {
+    #[tactic(auto, unfolding(crate::specs::Answer::good_times))]
+    fn has_good_times(self) -> bool
+        ensures { result ≡ good_times first_edition self.arrival self.deadline }
+    {
+        self.arrival < self.deadline && self.deadline <= MOST_SLOTS
     }
-    if hi < lo {
-        return false;
+
+    #[tactic(auto, unfolding(crate::specs::Answer::good_budgets))]
+    fn has_good_budgets(self) -> bool
+        ensures { result ≡ good_budgets first_edition self.level self.ordinary self.high }
+    {
+        1 <= self.ordinary
+            && self.ordinary <= self.high
+            && self.high <= MOST_BUDGET
+            && (self.level == 1 || self.ordinary == self.high)
     }
-    if MOST_BUDGET < hi {
-        return false;
+
+    // As job j.
+    #[tactic(auto, unfolding(crate::specs::Answer::fields_answer))]
+    fn check(self, j: usize) -> Result<(), Why>
+        ensures { result ≡ fields_answer first_edition j self.level self.arrival self.deadline self.ordinary self.high }
+    {
+        if 1 < self.level {
+            return Err(Why::Level(j));
+        }
+        if !self.has_good_times() {
+            return Err(Why::Times(j));
+        }
+        if !self.has_good_budgets() {
+            return Err(Why::Budgets(j));
+        }
+        Ok(())
     }
-    if v == 1 {
-        return true;
-    }
-    if lo != hi {
-        return false;
-    }
-    true
 }
 
-// The fields of job j.
-#[tactic(auto, unfolding(crate::specs::Answer::fields_answer))]
-fn check_fields(j: usize, v: usize, a: usize, d: usize, lo: usize, hi: usize) -> Result<(), Why>
-    ensures { result ≡ fields_answer first_edition j v a d lo hi }
-{
-    if 1 < v {
-        return Err(Why::Level(j));
-    }
-    if !good_times(a, d) {
-        return Err(Why::Times(j));
-    }
-    if !good_budgets(v, lo, hi) {
-        return Err(Why::Budgets(j));
-    }
-    Ok(())
+// What follows the head, in bytes that hold all of it.
+#[derive(Clone, Copy)]
+struct Body<'a> {
+    bytes: &'a [u8],
+    jobs: usize,
+    edges: usize,
+    ghost few: { jobs ≤ first_edition.jobs },
+    ghost fits: { list_bytes jobs edges ≤ length bytes.now },
 }
 
-fn check_job(s: &[u8], j: usize) -> Result<(), Why>
-    requires { job_at j + job_bytes ≤ length s.now }
-    ensures { result ≡ job_answer first_edition (high s.now) s.now j }
-{
-    check_fields(
-        j,
-        level_of(s, j),
-        arrival_of(s, j),
-        deadline_of(s, j),
-        ordinary_of(s, j),
-        high_of(s, j),
-    )
-}
-
-// The jobs.
-#[tactic(auto, using(basics::proofs::Chain::turn_good, basics::proofs::Chain::turn_no, basics::proofs::Chain::turn_end))]
-fn check_jobs(s: &[u8], n: usize) -> Result<(), Why>
-    requires { job_at n ≤ length s.now }
-    ensures { result ≡ each n (job_answer first_edition (high s.now) s.now) }
-{
-    for j in 0..n {
-        check_job(s, j)?;
+impl Body<'_> {
+    // The zero bytes of the jobs.
+    #[tactic(auto, using(basics::proofs::Chain::turn_good, basics::proofs::Chain::turn_no, basics::proofs::Chain::turn_end), unfolding(crate::specs::Answer::zero_answer))]
+    fn check_zeros(&self) -> Result<(), Why>
+        ensures { result ≡ each self.now.jobs (zero_answer self.now.bytes.now) }
+    {
+        for j in 0..self.jobs {
+            if self.bytes[HEAD_BYTES + JOB_BYTES * j + 9] != 0 {
+                return Err(Why::Zero);
+            }
+        }
+        Ok(())
     }
-    Ok(())
-}
 
-// The largest deadline.
-#[tactic(auto, using(crate::proofs::Steps::largest_zero, crate::proofs::Steps::largest_step))]
-fn largest_of(s: &[u8], n: usize) -> usize
-    requires { job_at n ≤ length s.now }
-    ensures { result ≡ largest s.now n }
-{
-    let mut l: usize = 0;
-    for j in 0..n {
-        let d = deadline_of(s, j);
-        if l < d {
-            l = d;
+    fn job(&self, j: usize) -> Job
+        requires { j < self.now.jobs }
+        ensures { result ≡ record { arrival = arrival self.now.bytes.now j; deadline = deadline self.now.bytes.now j; ordinary = ordinary self.now.bytes.now j; high = high self.now.bytes.now j; level = level self.now.bytes.now j } }
+    {
+        Job {
+            arrival: arrival_of(self.bytes, j),
+            deadline: deadline_of(self.bytes, j),
+            ordinary: ordinary_of(self.bytes, j),
+            high: high_of(self.bytes, j),
+            level: level_of(self.bytes, j),
         }
     }
-    l
-}
 
-// Whether an edge may go from p to q.
-#[tactic(auto, unfolding(crate::specs::Answer::good_pair))]
-fn good_pair(n: usize, p: usize, q: usize, in_order: bool) -> bool
-    ensures { result ≡ good_pair n p q in_order }
-{
-    if n <= p {
-        return false;
+    fn check_job(&self, j: usize) -> Result<(), Why>
+        requires { j < self.now.jobs }
+        ensures { result ≡ job_answer first_edition (high self.now.bytes.now) self.now.bytes.now j }
+    {
+        self.job(j).check(j)
     }
-    if n <= q {
-        return false;
-    }
-    if p == q {
-        return false;
-    }
-    in_order
-}
 
-// One edge.
-#[tactic(auto, unfolding(crate::specs::Answer::edge_answer, crate::specs::Answer::good_pair))]
-fn check_edge(s: &[u8], n: usize, e: usize) -> Result<(), Why>
-    requires { edge_at n e + edge_bytes ≤ length s.now }
-    ensures { result ≡ edge_answer s.now n e }
-{
-    let p = edge_from(s, n, e);
-    let q = edge_to(s, n, e);
-    if !good_pair(n, p, q, rises(s, n, e)) {
-        return Err(Why::Pair(e));
-    }
-    if level_of(s, p) < level_of(s, q) {
-        return Err(Why::LowToHigh(e));
-    }
-    Ok(())
-}
-
-// The edges.
-#[tactic(auto, using(basics::proofs::Chain::turn_good, basics::proofs::Chain::turn_no, basics::proofs::Chain::turn_end))]
-fn check_edges(s: &[u8], n: usize, m: usize) -> Result<(), Why>
-    requires { list_bytes n m ≤ length s.now }
-    ensures { result ≡ each m (edge_answer s.now n) }
-{
-    for e in 0..m {
-        check_edge(s, n, e)?;
-    }
-    Ok(())
-}
-
-// The jobs to which an edge comes from a job that is alive: one pass over the edges.
-fn round(s: &[u8], n: usize, m: usize, alive: [bool; MOST_JOBS]) -> [bool; MOST_JOBS]
-    requires { (n ≤ first_edition.jobs) × (list_bytes n m ≤ length s.now) × Named s.now n m }
-    ensures { (j : ℕ) → j < n → get_or result j false ≡ reached s.now n m (λ i. get_or alive i false) j }
-{
-    let mut next = [false; MOST_JOBS];
-    for e in 0..m {
-        let p = edge_from(s, n, e);
-        let q = edge_to(s, n, e);
-        if alive[p] {
-            next[q] = true;
+    #[tactic(auto, using(basics::proofs::Chain::turn_good, basics::proofs::Chain::turn_no, basics::proofs::Chain::turn_end))]
+    fn check_jobs(&self) -> Result<(), Why>
+        ensures { result ≡ each self.now.jobs (job_answer first_edition (high self.now.bytes.now) self.now.bytes.now) }
+    {
+        for j in 0..self.jobs {
+            self.check_job(j)?;
         }
+        Ok(())
     }
-    next
-}
 
-// Whether the edges form a cycle: whether a job is alive after as many rounds as there are jobs.
-fn cyclic_of(s: &[u8], n: usize, m: usize) -> bool
-    requires { (n ≤ first_edition.jobs) × (list_bytes n m ≤ length s.now) × Named s.now n m }
-    ensures { result ≡ cyclic s.now n m }
-{
-    let mut alive = [true; MOST_JOBS];
-    for k in 0..n {
-        alive = round(s, n, m, alive);
-    }
-    let mut found = false;
-    for j in 0..n {
-        if alive[j] {
-            found = true;
+    // The largest deadline.
+    #[tactic(auto, using(crate::proofs::Steps::largest_zero, crate::proofs::Steps::largest_step))]
+    fn longest(&self) -> usize
+        ensures { result ≡ largest self.now.bytes.now self.now.jobs }
+    {
+        let mut longest = 0;
+        for j in 0..self.jobs {
+            longest = longest.max(deadline_of(self.bytes, j));
         }
+        longest
     }
-    found
-}
 
-// What follows the head.
-#[tactic(auto, unfolding(crate::specs::Answer::body_answer))]
-fn check_body(s: &[u8], n: usize, m: usize) -> Result<(), Why>
-    requires { (n ≤ first_edition.jobs) × (list_bytes n m ≤ length s.now) }
-    ensures { result ≡ body_answer first_edition (high s.now) s.now n m }
-{
-    check_zeros(s, n)?;
-    check_jobs(s, n)?;
-    if slots_of(s) != largest_of(s, n) {
-        return Err(Why::Slots);
+    // The jobs of edge e.
+    fn edge(&self, e: usize) -> (usize, usize)
+        requires { e < self.now.edges }
+        ensures { result ≡ (edge_from self.now.bytes.now self.now.jobs e, edge_to self.now.bytes.now self.now.jobs e) }
+    {
+        (
+            edge_from(self.bytes, self.jobs, e),
+            edge_to(self.bytes, self.jobs, e),
+        )
     }
-    check_edges(s, n, m)?;
-    if cyclic_of(s, n, m) {
-        return Err(Why::Cycle);
+
+    // Whether edge e comes after the edge before it.
+    #[tactic(auto, unfolding(crate::specs::Answer::rising))]
+    fn rises(&self, e: usize) -> bool
+        requires { e < self.now.edges }
+        ensures { result ≡ rising self.now.bytes.now self.now.jobs e }
+    {
+        e == 0 || self.edge(e - 1) < self.edge(e)
     }
-    Ok(())
+
+    // Whether an edge may go from p to q.
+    #[tactic(auto, unfolding(crate::specs::Answer::good_pair))]
+    fn is_good_pair(&self, p: usize, q: usize, in_order: bool) -> bool
+        ensures { result ≡ good_pair self.now.jobs p q in_order }
+    {
+        p < self.jobs && q < self.jobs && p != q && in_order
+    }
+
+    #[tactic(auto, unfolding(crate::specs::Answer::edge_answer, crate::specs::Answer::good_pair))]
+    fn check_edge(&self, e: usize) -> Result<(), Why>
+        requires { e < self.now.edges }
+        ensures { result ≡ edge_answer self.now.bytes.now self.now.jobs e }
+    {
+        let (p, q) = self.edge(e);
+        if !self.is_good_pair(p, q, self.rises(e)) {
+            return Err(Why::Pair(e));
+        }
+        if level_of(self.bytes, p) < level_of(self.bytes, q) {
+            return Err(Why::LowToHigh(e));
+        }
+        Ok(())
+    }
+
+    #[tactic(auto, using(basics::proofs::Chain::turn_good, basics::proofs::Chain::turn_no, basics::proofs::Chain::turn_end))]
+    fn check_edges(&self) -> Result<(), Why>
+        ensures { result ≡ each self.now.edges (edge_answer self.now.bytes.now self.now.jobs) }
+    {
+        for e in 0..self.edges {
+            self.check_edge(e)?;
+        }
+        Ok(())
+    }
+
+    // The jobs to which an edge comes from a job that is alive: one pass over the edges.
+    fn round(&self, alive: [bool; MOST_JOBS]) -> [bool; MOST_JOBS]
+        requires { Named self.now.bytes.now self.now.jobs self.now.edges }
+        ensures { (j : ℕ) → j < self.now.jobs → get_or result j false ≡ reached self.now.bytes.now self.now.jobs self.now.edges (λ i. get_or alive i false) j }
+    {
+        let mut next = [false; MOST_JOBS];
+        for e in 0..self.edges {
+            let (p, q) = self.edge(e);
+            if alive[p] {
+                next[q] = true;
+            }
+        }
+        next
+    }
+
+    // Whether the edges form a cycle: whether a job is alive after as many rounds as there are jobs.
+    fn is_cyclic(&self) -> bool
+        requires { Named self.now.bytes.now self.now.jobs self.now.edges }
+        ensures { result ≡ cyclic self.now.bytes.now self.now.jobs self.now.edges }
+    {
+        let mut alive = [true; MOST_JOBS];
+        for k in 0..self.jobs {
+            alive = self.round(alive);
+        }
+        alive[..self.jobs].contains(&true)
+    }
+
+    #[tactic(auto, unfolding(crate::specs::Answer::body_answer))]
+    fn check(&self) -> Result<(), Why>
+        ensures { result ≡ body_answer first_edition (high self.now.bytes.now) self.now.bytes.now self.now.jobs self.now.edges }
+    {
+        self.check_zeros()?;
+        self.check_jobs()?;
+        if slots_of(self.bytes) != self.longest() {
+            return Err(Why::Slots);
+        }
+        self.check_edges()?;
+        if self.is_cyclic() {
+            return Err(Why::Cycle);
+        }
+        Ok(())
+    }
 }
 
 // Inner: a list at the front of the bytes, where the counts give `whole` bytes. A plan is checked by it too.
@@ -496,10 +491,14 @@ pub fn check_front(s: &[u8], whole: usize) -> Result<(), Why>
     requires { (head_bytes ≤ length s.now) × (list_bytes (jobs s.now) (edges s.now) ≤ whole) }
     ensures { result ≡ front_answer first_edition (high s.now) s.now whole }
 {
-    let n = jobs_of(s);
-    let m = edges_of(s);
-    check_counts(s.len(), whole, n, m, slots_of(s), u16_at(s, 6))?;
-    check_body(s, n, m)
+    let head = Head::of(s);
+    head.check(s.len(), whole)?;
+    let body = Body {
+        bytes: s,
+        jobs: head.jobs,
+        edges: head.edges,
+    };
+    body.check()
 }
 
 // The whole list.

@@ -2,7 +2,7 @@
 -- Assumes nothing.
 use Rattle.std.proofs.Common.{◌≡◌}
 use Rattle.joblist.specs.Answer.{largest}
-use Rattle.joblist.proofs.largest_of.Given as goal
+use Rattle.joblist.proofs.Body.longest.Given as goal
 
 abbrev pub invariant-loop-j : goal.invariant-loop-j
-invariant-loop-j l = l.l ≡ largest l.s l.j
+invariant-loop-j l = l.longest ≡ largest l.self.bytes.now l.j

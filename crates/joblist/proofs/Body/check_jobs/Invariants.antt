@@ -7,7 +7,7 @@ use Rattle.basics.specs.Limits.{first_edition}
 use Rattle.joblist.specs.Fields.{high}
 use Rattle.basics.specs.Chain.{◌⨾◌, each}
 use Rattle.joblist.specs.Answer.{job_answer}
-use Rattle.joblist.proofs.check_jobs.Given as goal
+use Rattle.joblist.proofs.Body.check_jobs.Given as goal
 
 abbrev pub invariant-loop-j : goal.invariant-loop-j
-invariant-loop-j l = each l.n (job_answer first_edition (high l.s) l.s) ≡ turns ◌⨾◌ (Ok tt) (job_answer first_edition (high l.s) l.s) l.n l.j
+invariant-loop-j l = each l.self.jobs (job_answer first_edition (high l.self.bytes.now) l.self.bytes.now) ≡ turns ◌⨾◌ (Ok tt) (job_answer first_edition (high l.self.bytes.now) l.self.bytes.now) l.self.jobs l.j
