@@ -4,6 +4,7 @@ use mathlib.Core.List.{List, [], ◌++◌, ◌∷◌}
 use mathlib.Core.Path.{◌≡◌, refl}
 use Prim.Native.Nat.{ℕ}
 use lib.ListN.{replicate}
+use Rattle.std.specs.Prelude.{Ok, Err}
 use Rattle.basics.specs.Below.{any_below, count_below, entries_before}
 use Rattle.basics.specs.Bytes.{u16_at}
 use Rattle.basics.specs.Choice.{pick}
@@ -21,7 +22,6 @@ use Rattle.verdict.specs.Answer.{check_of, odd_entry, tables_answer}
 use Rattle.verdict.specs.Count.{entries_in}
 use Rattle.verdict.specs.declared.Fault.TheVariants.{Before, Late}
 use Rattle.verdict.specs.declared.Objection.TheVariants.{Bad}
-use Rattle.verdict.specs.declared.Verdict.TheVariants.{No, Yes}
 use Rattle.witness.specs.Needs.{ended, need_of, needs_to, saying, witness_of}
 
 -- list A with m edges
@@ -36,8 +36,8 @@ abbrev two : ℕ → ℕ → List ℕ
 two a b = (a ∷ b ∷ []) ++ replicate 62 0
 
 -- P8: job 0 outruns CLO at slot 2 and needs its three units; job 1 had ended with its two. P9: no switch. P1: nothing goes wrong
-pub worked : (witness_of first_edition (list_a 0 []) (table 1 1 0 idle idle) (table 0 0 0 idle idle) ≡ saying (No (Bad (Late 5 0 2))) (two 3 2))
-    × (witness_of first_edition (list_a 1 (0 ∷ 1 ∷ [])) (table 1 1 0 idle idle) (table idle idle idle idle idle) ≡ saying (No (Bad (Before 0 1 0 no_switch))) (two 1 2))
-    × (witness_of first_edition (list_a 0 []) (table 1 1 0 idle idle) (table 1 1 0 0 0) ≡ saying Yes (two 0 0))
+pub worked : (witness_of first_edition (list_a 0 []) (table 1 1 0 idle idle) (table 0 0 0 idle idle) ≡ saying (Err (Bad (Late 5 0 2))) (two 3 2))
+    × (witness_of first_edition (list_a 1 (0 ∷ 1 ∷ [])) (table 1 1 0 idle idle) (table idle idle idle idle idle) ≡ saying (Err (Bad (Before 0 1 0 no_switch))) (two 1 2))
+    × (witness_of first_edition (list_a 0 []) (table 1 1 0 idle idle) (table 1 1 0 0 0) ≡ saying (Ok tt) (two 0 0))
 unfolding witness_of needs_to need_of ended pick entries_in entries_before count_below check_of tables_answer odd_entry list_answer front_answer counts_answer within body_answer fields_answer good_times good_budgets largest rising good_pair cyclic walk any_below turns in_turn edge_in u16_at first_fault search_from switches switch_at try_switch reaches_budget scan fault_at fault_of owed late_job step slot_with outran runs ready waits_for next_mode find needs_after one_more switch_to
 worked = (refl, refl, refl)

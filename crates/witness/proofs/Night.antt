@@ -6,6 +6,7 @@ use Prim.Native.Nat.{◌+◌, ◌<◌, ◌≤◌, suc, ℕ}
 use native.Mathlib.Omega.{arith}
 use borrow.Author.Tests.{le-leb, lt-leb}
 use lib.ListN.{length, replicate}
+use Rattle.std.specs.Prelude.{Ok, Err}
 use Rattle.basics.specs.Below.{entries_before}
 use Rattle.basics.specs.Limits.{Limits, first_edition}
 use Rattle.basics.specs.Marks.{no_switch}
@@ -21,14 +22,12 @@ use Rattle.verdict.proofs.Demand.{check_is}
 use Rattle.verdict.proofs.Judged.{judged_input}
 use Rattle.verdict.proofs.Switches.{entries_all}
 use Rattle.verdict.proofs.WellFormed.{well_formed}
-use Rattle.verdict.specs.Answer.{check_of, fault_of, search_answer, switch_of}
+use Rattle.verdict.specs.Answer.{Verdict, check_of, fault_of, search_answer, switch_of}
 use Rattle.verdict.specs.Count.{entries_in, entry_at}
 use Rattle.verdict.specs.Demand.{Input}
 use Rattle.verdict.specs.FrameOf.{frame_of}
 use Rattle.verdict.specs.declared.Fault.{Fault}
 use Rattle.verdict.specs.declared.Objection.TheVariants.{Bad, Entry, OfList, Size}
-use Rattle.verdict.specs.declared.Verdict.{Verdict}
-use Rattle.verdict.specs.declared.Verdict.TheVariants.{No, Yes}
 use Rattle.witness.proofs.Again.{again}
 use Rattle.witness.proofs.Filled.{keeps_first, keeps_other, keeps_own, need_chi, need_clo, needs_at}
 use Rattle.witness.proofs.TwoNeeds.{NeedAt, Needs, behind, had, more, needs_of, ordinary as all-ordinary, own}
@@ -50,11 +49,11 @@ module _ (lim : Limits) (s lo hi : List ℕ) where
     said : fault_of fault.slot (switch_of fault.chain) fault.kind ≡ f
     is : first_fault F ≡ found fault
 
-  searched : (a : Finding) (f : Fault) → first_fault F ≡ a → search_answer a ≡ No (Bad f) → Searched f
-  searched nothing f p h = let z : ◌≡◌ {A = ℕ} 0 1 = cc in absurd (omega arith)
+  searched : (a : Finding) (f : Fault) → first_fault F ≡ a → search_answer a ≡ Err (Bad f) → Searched f
+  searched nothing f p h = cc
   searched (found g) f p h = record { fault = g; said = (let z : fault_of g.slot (switch_of g.chain) g.kind ≡ f = cc in z); is = p }
 
-  module _ (small : lim.slots ≤ no_switch) (f : Fault) (y : check_of lim s lo hi ≡ No (Bad f)) where
+  module _ (small : lim.slots ≤ no_switch) (f : Fault) (y : check_of lim s lo hi ≡ Err (Bad f)) where
     input : Input lim s lo hi
     input = judged_input lim s lo hi (rw y tt)
 
@@ -119,17 +118,20 @@ module _ (lim : Limits) (s lo hi : List ℕ) where
         let r = again F W demand (units_of needs) (λ i a. demand_is i a ∙ sym (needs_at lim.jobs s lo (switch_in f) (jobs s) i list_accepted.most_jobs a)) found_by.fault its.real refl in
         record { wrong = record { fault = found_by.fault; said = found_by.said; real = r.0 }; demand = r.1 }
 
-  no_fault : (v : Verdict) → ((f : Fault) → ¬ (v ≡ No (Bad f))) → needs_behind lim s lo v ≡ replicate lim.jobs 0
-  no_fault Yes h = refl
-  no_fault (No (OfList w)) h = refl
-  no_fault (No Size) h = refl
-  no_fault (No (Entry t)) h = refl
-  no_fault (No (Bad f)) h = absurd (h f refl)
+  no_fault : (v : Verdict) → ((f : Fault) → ¬ (v ≡ Err (Bad f))) → needs_behind lim s lo v ≡ replicate lim.jobs 0
+  no_fault (Ok u) h = refl
+  no_fault (Err (OfList w)) h = refl
+  no_fault (Err Size) h = refl
+  no_fault (Err (Entry t)) h = refl
+  no_fault (Err (Bad f)) h = absurd (h f refl)
 
   -- the answer and the needs, as the code puts them together
   pub says : (v : Verdict) (needs : List ℕ) → v ≡ check_of lim s lo hi → needs ≡ needs_behind lim s lo v → saying v needs ≡ witness_of lim s lo hi
   unfolding witness_of
   says v needs a b = ap₂ saying a (b ∙ ap (needs_behind lim s lo) a)
+
+  pub says_none : (v : Verdict) → v ≡ check_of lim s lo hi → ((f : Fault) → ¬ (v ≡ Err (Bad f))) → saying v (replicate lim.jobs 0) ≡ witness_of lim s lo hi
+  says_none v a h = says v (replicate lim.jobs 0) a (sym (no_fault v h))
 
   -- where no slot has the number of the mark
   pub witnessed : lim.slots ≤ no_switch → Witnessed lim s lo hi

@@ -38,7 +38,7 @@ module _ (F : Frame) (W : WellFormed F) (two : F.K ≡ 2) where
 
   first_needs : (h : List ℕ) (c : ℕ → ℕ) → Behind F h c → h ≡ [] → (i : ℕ) → c i ≡ CLO F i
   first_needs h c at_first e i = refl
-  first_needs h c (switched_at t m q m' u b y l k) e i = let z : ◌≡◌ {A = ℕ} 0 1 = cc in absurd (omega arith)
+  first_needs h c (switched_at t m q m' u b y l k) e i = cc
 
   -- at the switch
   module _ (x : ℕ) (u : List ℕ) (c : ℕ → ℕ) (clo : (i : ℕ) → c i ≡ CLO F i) (units : (i : ℕ) → i < F.n → units_of u i ≡ min (CLO F i) (entries_before (F.table 0) i x)) where
@@ -54,7 +54,7 @@ module _ (F : Frame) (W : WellFormed F) (two : F.K ≡ 2) where
             had z (omega (arith, w, clo i, units i a, more_other true (F.table 0 x) u i z, entries_else (F.table 0) i x (λ e. z (sym e)))) (n ∙ clo i)
 
   one_needs : (h : List ℕ) (c : ℕ → ℕ) → Behind F h c → (x : ℕ) → h ≡ x ∷ [] → (i : ℕ) → i < F.n → NeedAt x i (c i)
-  one_needs h c at_first x e i a = let z : ◌≡◌ {A = ℕ} 0 1 = cc in absurd (omega arith)
+  one_needs h c at_first x e i a = cc
   one_needs h c (switched_at {h = h'} {c = c'} t m q m' u b y l k) x e i a =
       let et : t ≡ x = cc in
       let em : m ≡ 0 = omega arith in

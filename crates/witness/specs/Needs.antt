@@ -1,17 +1,15 @@
 -- The execution behind a fault of the check: how many units each job needs.
 -- Assumes nothing.
-use Rattle.std.specs.Prelude.{ℕ, zero, suc, ◌+◌, List, Bool, not, ◌&&◌, ◌||◌, replicate, set, eqb, leb}
+use Rattle.std.specs.Prelude.{ℕ, zero, suc, ◌+◌, List, Bool, not, ◌&&◌, ◌||◌, replicate, set, eqb, leb, Ok, Err}
 use Rattle.basics.specs.Choice.{pick}
 use Rattle.basics.specs.Limits.{Limits}
 use Rattle.basics.specs.Marks.{no_switch}
 use Rattle.joblist.specs.Fields.{jobs, ordinary, high}
-use Rattle.verdict.specs.Answer.{check_of}
+use Rattle.verdict.specs.Answer.{Verdict, check_of}
 use Rattle.verdict.specs.Count.{entry_at, entries_in}
 use Rattle.verdict.specs.declared.Fault.{Fault}
 use Rattle.verdict.specs.declared.Fault.TheVariants.{Late, Early, Before}
 use Rattle.verdict.specs.declared.Objection.TheVariants.{OfList, Size, Entry, Bad}
-use Rattle.verdict.specs.declared.Verdict.{Verdict}
-use Rattle.verdict.specs.declared.Verdict.TheVariants.{Yes, No}
 use Rattle.witness.specs.declared.needs.Witness.{Witness}
 
 -- the switch slot of a fault
@@ -35,11 +33,11 @@ needs_to k s lo x (suc n) = set (needs_to k s lo x n) n (need_of s lo x n)
 
 -- the needs behind an answer of the check: zeros where it is no fault
 abbrev pub needs_behind : Limits → List ℕ → List ℕ → Verdict → List ℕ
-needs_behind lim s lo Yes = replicate lim.jobs 0
-needs_behind lim s lo (No (OfList w)) = replicate lim.jobs 0
-needs_behind lim s lo (No Size) = replicate lim.jobs 0
-needs_behind lim s lo (No (Entry t)) = replicate lim.jobs 0
-needs_behind lim s lo (No (Bad f)) = needs_to lim.jobs s lo (switch_in f) (jobs s)
+needs_behind lim s lo (Ok u) = replicate lim.jobs 0
+needs_behind lim s lo (Err (OfList w)) = replicate lim.jobs 0
+needs_behind lim s lo (Err Size) = replicate lim.jobs 0
+needs_behind lim s lo (Err (Entry t)) = replicate lim.jobs 0
+needs_behind lim s lo (Err (Bad f)) = needs_to lim.jobs s lo (switch_in f) (jobs s)
 
 -- an answer of the check with some needs
 abbrev pub saying : Verdict → List ℕ → Witness

@@ -5,7 +5,7 @@ ghost use Rattle.std.specs.Prelude.{◌≡◌};
 ghost use Rattle.basics.specs.Limits.{first_edition};
 ghost use Rattle.witness.specs.Needs.{witness_of};
 
-use needs::{Witness, needs_to, no_needs, switch_in};
+use needs::{Execution, Witness, switch_in};
 use verdict::Objection;
 
 pub mod needs;
@@ -14,17 +14,21 @@ pub mod needs;
 pub fn witness(list: &[u8], lo: &[u8], hi: &[u8]) -> Witness
     ensures { result ≡ witness_of first_edition list.now lo.now hi.now }
 {
-    let v = verdict::check(list, lo, hi);
-    let Err(w) = v else {
-        return no_needs(v);
+    let verdict = verdict::check(list, lo, hi);
+    let Err(objection) = verdict else {
+        return Witness::without_needs(verdict);
     };
-    match w {
-        Objection::OfList(_) => no_needs(v),
-        Objection::Size => no_needs(v),
-        Objection::Entry(_) => no_needs(v),
-        Objection::Bad(f) => Witness {
-            verdict: v,
-            needs: needs_to(list, lo, switch_in(f), joblist::jobs_of(list)),
-        },
+    let Objection::Bad(fault) = objection else {
+        return Witness::without_needs(verdict);
+    };
+    let execution = Execution {
+        list,
+        jobs: joblist::jobs_of(list),
+        lo,
+        switch: switch_in(fault),
+    };
+    Witness {
+        verdict,
+        needs: execution.needs(),
     }
 }

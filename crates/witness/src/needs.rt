@@ -1,9 +1,8 @@
 // What each job needs in the execution that goes wrong. All but the struct is inner.
 ghost use Rattle.std.specs.Prelude.{◌≡◌, ◌||◌, ◌+◌, ◌<◌, ◌≤◌, length, replicate, eqb};
-ghost use Rattle.basics.specs.Choice.{pick};
 ghost use Rattle.basics.specs.Limits.{first_edition};
 ghost use Rattle.basics.specs.Marks.{no_switch};
-ghost use Rattle.joblist.specs.Fields.{job_at, job_bytes};
+ghost use Rattle.joblist.specs.Fields.{job_at};
 ghost use Rattle.witness.specs.Needs.{switch_in, ended, need_of, needs_to, saying};
 
 use joblist::{MOST_JOBS, high_of, ordinary_of};
@@ -17,76 +16,73 @@ pub struct Witness {
     pub needs: [u16; MOST_JOBS],
 }
 
+impl Witness {
+    // An answer that names no fault.
+    pub(crate) fn without_needs(verdict: Verdict) -> Witness
+        ensures { result ≡ saying verdict (replicate first_edition.jobs 0) }
+    {
+        Witness {
+            verdict,
+            needs: [0; MOST_JOBS],
+        }
+    }
+}
+
 // The switch slot of a fault.
 pub(crate) fn switch_in(f: Fault) -> usize
     ensures { result ≡ switch_in f }
 {
     match f {
-        Fault::Late(_, _, x) => x,
-        Fault::Early(_, _, x) => x,
-        Fault::Before(_, _, _, x) => x,
+        Fault::Late(_, _, x) | Fault::Early(_, _, x) | Fault::Before(_, _, _, x) => x,
     }
 }
 
-// Whether job j needs no more than CLO: there is no switch, or it had ended when the job of slot x in table LO switched.
-#[tactic(auto, unfolding(crate::specs::Needs::ended))]
-fn keeps_clo(list: &[u8], lo: &[u8], x: usize, j: usize) -> bool
-    requires { (job_at j + job_bytes ≤ length list.now) × (x ≤ no_switch) }
-    ensures { result ≡ (eqb x no_switch || ended list.now lo.now x j) }
-{
-    if x == Fault::NO_SWITCH {
-        return true;
-    }
-    if j == entry_at(lo, x) {
-        return false;
-    }
-    ordinary_of(list, j) <= entries_before(lo, j, x + 1)
+// An execution: the list with its jobs, table LO, and the slot of its switch.
+#[derive(Clone, Copy)]
+pub(crate) struct Execution<'a> {
+    pub(crate) list: &'a [u8],
+    pub(crate) jobs: usize,
+    pub(crate) lo: &'a [u8],
+    pub(crate) switch: usize,
+    ghost few: { jobs ≤ first_edition.jobs },
+    ghost fits: { job_at jobs ≤ length list.now },
+    ghost known: { switch ≤ no_switch },
 }
 
-// CLO or CHI, as wide as a budget is.
-#[tactic(auto, unfolding(basics::specs::Choice::pick))]
-fn clo_or_chi(keeps: bool, clo: usize, chi: usize) -> u16
-    requires { (clo < 65536) × (chi < 65536) }
-    ensures { result ≡ pick keeps clo chi }
-{
-    if keeps {
-        return clo as u16;
+impl Execution<'_> {
+    // Whether job j needs no more than CLO: there is no switch, or it had ended when the job of the switch slot switched.
+    #[tactic(auto, unfolding(crate::specs::Needs::ended))]
+    fn keeps_clo(&self, j: usize) -> bool
+        requires { j < self.now.jobs }
+        ensures { result ≡ (eqb self.now.switch no_switch || ended self.now.list.now self.now.lo.now self.now.switch j) }
+    {
+        self.switch == Fault::NO_SWITCH
+            || (j != entry_at(self.lo, self.switch)
+                && ordinary_of(self.list, j) <= entries_before(self.lo, j, self.switch + 1))
     }
-    chi as u16
-}
 
-// What job j needs, where the switch is at x.
-#[tactic(auto, unfolding(crate::specs::Needs::need_of))]
-fn need_of(list: &[u8], lo: &[u8], x: usize, j: usize) -> u16
-    requires { (job_at j + job_bytes ≤ length list.now) × (x ≤ no_switch) }
-    ensures { result ≡ need_of list.now lo.now x j }
-{
-    clo_or_chi(
-        keeps_clo(list, lo, x, j),
-        ordinary_of(list, j),
-        high_of(list, j),
-    )
-}
-
-// What each of n jobs needs; zeros past them.
-#[tactic(auto, using(crate::proofs::Filled::needs_none, crate::proofs::Filled::needs_more))]
-pub(crate) fn needs_to(list: &[u8], lo: &[u8], x: usize, n: usize) -> [u16; MOST_JOBS]
-    requires { (n ≤ first_edition.jobs) × (job_at n ≤ length list.now) × (x ≤ no_switch) }
-    ensures { result ≡ needs_to first_edition.jobs list.now lo.now x n }
-{
-    let mut needs = [0u16; MOST_JOBS];
-    for j in 0..n {
-        needs[j] = need_of(list, lo, x, j);
+    // What job j needs: CLO or CHI, as wide as a budget is.
+    #[tactic(auto, unfolding(crate::specs::Needs::need_of, basics::specs::Choice::pick))]
+    fn need(&self, j: usize) -> u16
+        requires { j < self.now.jobs }
+        ensures { result ≡ need_of self.now.list.now self.now.lo.now self.now.switch j }
+    {
+        if self.keeps_clo(j) {
+            ordinary_of(self.list, j) as u16
+        } else {
+            high_of(self.list, j) as u16
+        }
     }
-    needs
-}
 
-// An answer that names no fault.
-pub(crate) fn no_needs(v: Verdict) -> Witness
-    ensures { result ≡ saying v (replicate first_edition.jobs 0) }
-{
-    Witness {
-        verdict: v,
-        needs: [0u16; MOST_JOBS],
+    // What each job needs; zeros past them.
+    #[tactic(auto, using(crate::proofs::Filled::needs_none, crate::proofs::Filled::needs_more))]
+    pub(crate) fn needs(&self) -> [u16; MOST_JOBS]
+        ensures { result ≡ needs_to first_edition.jobs self.now.list.now self.now.lo.now self.now.switch self.now.jobs }
+    {
+        let mut needs = [0; MOST_JOBS];
+        for j in 0..self.jobs {
+            needs[j] = self.need(j);
+        }
+        needs
     }
 }
