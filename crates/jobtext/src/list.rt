@@ -1,36 +1,35 @@
 // The fields of a list's bytes, safe at any place: 0 where the list has none.
-use joblist::{EDGE_BYTES, HEAD_BYTES, JOB_BYTES, MOST_JOBS, wide};
-use page::after;
+use joblist::{EDGE_BYTES, HEAD_BYTES, JOB_BYTES, MOST_JOBS};
 use text::byte_at;
 
 // The pairs of jobs, and the bytes of a list that has every pair as an edge.
-pub const PAIRS: usize = MOST_JOBS * MOST_JOBS;
+const PAIRS: usize = MOST_JOBS * MOST_JOBS;
 
-pub const LIST_ROOM: usize = HEAD_BYTES + JOB_BYTES * MOST_JOBS + EDGE_BYTES * PAIRS;
+const LIST_ROOM: usize = HEAD_BYTES + JOB_BYTES * MOST_JOBS + EDGE_BYTES * PAIRS;
 
-// The place of a field of job j.
-pub(crate) fn field_at(j: usize, field: usize) -> usize {
-    if j < MOST_JOBS {
-        if field < JOB_BYTES {
-            return HEAD_BYTES + JOB_BYTES * j + field;
-        }
+// The place of a field of job j; past every list where it has no such job.
+fn field_at(j: usize, field: usize) -> usize {
+    if j < MOST_JOBS && field < JOB_BYTES {
+        HEAD_BYTES + JOB_BYTES * j + field
+    } else {
+        LIST_ROOM
     }
-    LIST_ROOM
 }
 
 // The place of edge e, after n jobs.
-pub(crate) fn edge_at(n: usize, e: usize) -> usize {
-    if n <= MOST_JOBS {
-        if e <= PAIRS {
-            return HEAD_BYTES + JOB_BYTES * n + EDGE_BYTES * e;
-        }
+fn edge_at(n: usize, e: usize) -> usize {
+    if n <= MOST_JOBS && e <= PAIRS {
+        HEAD_BYTES + JOB_BYTES * n + EDGE_BYTES * e
+    } else {
+        LIST_ROOM
     }
-    LIST_ROOM
 }
 
 // The 16 bits at a place, the low byte first.
 fn u16_at(list: &[u8], i: usize) -> usize {
-    wide(byte_at(list, i)) + 256 * wide(byte_at(list, after(i)))
+    let low = byte_at(list, i);
+    let high = byte_at(list, i.saturating_add(1));
+    usize::from(u16::from_le_bytes([low, high]))
 }
 
 pub fn jobs(list: &[u8]) -> usize {
@@ -66,9 +65,9 @@ pub fn is_high(list: &[u8], j: usize) -> bool {
 }
 
 pub fn edge_from(list: &[u8], e: usize) -> usize {
-    wide(byte_at(list, edge_at(jobs(list), e)))
+    usize::from(byte_at(list, edge_at(jobs(list), e)))
 }
 
 pub fn edge_to(list: &[u8], e: usize) -> usize {
-    wide(byte_at(list, after(edge_at(jobs(list), e))))
+    usize::from(byte_at(list, edge_at(jobs(list), e).saturating_add(1)))
 }

@@ -1,45 +1,75 @@
-// A mistake in a job list's text: the file, the line, and what was expected.
-use crate::reader::{Jobs, Wrong};
+// A mistake in a job list's text: the line, and what was expected there.
 use page::Page;
+use std::alloc::{AllocError, AllocFailed};
 
-// What was expected of a job's line.
-fn put_of_job(page: Page, w: Wrong) -> Page {
-    match w {
-        Wrong::Name => page.put(b"expected a name of 1 to 32 bytes, letters, digits or signs"),
-        Wrong::Short => page.put(
-            b"expected NAME arrival deadline low|high CLO [CHI], or NAME before NAME",
-        ),
-        Wrong::Arrival => {
-            page.put(b"expected the arrival, a number from 0 to 65535, after the name")
+// What is wrong with a line.
+#[derive(Clone, Copy, Debug, PartialEq, Eq)]
+pub enum Wrong {
+    Name,
+    Short,
+    Arrival,
+    Deadline,
+    Level,
+    Ordinary,
+    High,
+    Long,
+    Taken,
+    Full,
+    Edge,
+    First,
+    Second,
+    Twice,
+}
+
+impl Wrong {
+    // What was expected.
+    fn expected(self) -> &'static [u8] {
+        match self {
+            Wrong::Name => b"a name of 1 to 32 bytes, letters, digits or signs",
+            Wrong::Short => b"NAME arrival deadline low|high CLO [CHI], or NAME before NAME",
+            Wrong::Arrival => b"the arrival, a number from 0 to 65535, after the name",
+            Wrong::Deadline => b"the deadline, a number from 0 to 65535, after the arrival",
+            Wrong::Level => b"low or high after the deadline",
+            Wrong::Ordinary => b"the budget CLO, a number from 0 to 65535, after the level",
+            Wrong::High => b"the budget CHI, a number from 0 to 65535, after CLO",
+            Wrong::Long => b"nothing after the budget CHI",
+            Wrong::Taken => b"a new name: another job has this one",
+            Wrong::Full => b"at most 64 jobs, and this is one more",
+            Wrong::Edge => b"NAME before NAME, and nothing else",
+            Wrong::First => b"the name of a job in front of `before`",
+            Wrong::Second => b"the name of a job after `before`",
+            Wrong::Twice => b"each edge once: an earlier line has this one",
         }
-        Wrong::Deadline => {
-            page.put(b"expected the deadline, a number from 0 to 65535, after the arrival")
-        }
-        Wrong::Level => page.put(b"expected low or high after the deadline"),
-        Wrong::Ordinary => {
-            page.put(b"expected the budget CLO, a number from 0 to 65535, after the level")
-        }
-        Wrong::High => page.put(b"expected the budget CHI, a number from 0 to 65535, after CLO"),
-        Wrong::Long => page.put(b"expected nothing after the budget CHI"),
-        Wrong::Taken => page.put(b"expected a new name: another job has this one"),
-        _ => page.put(b"expected at most 64 jobs, and this is one more"),
     }
 }
 
-// What was expected of a line.
-fn put_expected(page: Page, w: Wrong) -> Page {
-    match w {
-        Wrong::Edge => page.put(b"expected NAME before NAME, and nothing else"),
-        Wrong::First => page.put(b"expected the name of a job in front of `before`"),
-        Wrong::Second => page.put(b"expected the name of a job after `before`"),
-        Wrong::Twice => page.put(b"expected each edge once: an earlier line has this one"),
-        _ => put_of_job(page, w),
+// Why a text was not read: what is wrong, and in which line; or that memory ran out.
+#[derive(Clone, Copy, Debug, PartialEq, Eq)]
+pub enum Mistake {
+    Line(usize, Wrong),
+    NoMemory,
+}
+
+impl From<AllocError> for Mistake {
+    fn from(_e: AllocError) -> Mistake {
+        Mistake::NoMemory
+    }
+}
+
+impl<T: Drop> From<AllocFailed<T>> for Mistake {
+    fn from(_e: AllocFailed<T>) -> Mistake {
+        Mistake::NoMemory
     }
 }
 
 // Says where a text is mistaken, and what was expected there.
-pub fn put_mistake(page: Page, path: &[u8], jobs: &Jobs) -> Page {
-    let wrong = jobs.wrong;
-    let at = page.put(path).put(b": line ").number(jobs.line).put(b": ");
-    put_expected(at, wrong).end()
+pub fn put_mistake(page: Page, path: &[u8], mistake: &Mistake) -> Page {
+    let at = page.put(path).put(b": ");
+    match mistake {
+        Mistake::Line(line, wrong) => {
+            let here = at.put(b"line ").number(*line).put(b": expected ");
+            here.line(wrong.expected())
+        }
+        Mistake::NoMemory => at.line(b"out of memory"),
+    }
 }

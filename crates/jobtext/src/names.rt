@@ -1,107 +1,107 @@
-// The names of jobs, kept by value: at most 32 bytes each.
-use joblist::MOST_JOBS;
+// The names of jobs.
+ghost use Rattle.std.specs.Prelude.{◌≡◌, ℕ, List, [], ◌∷◌, ◌++◌, length, map, is_ok, if◌then◌else◌};
+ghost use Rattle.std.specs.List.{position};
+ghost use Rattle.std.specs.Str.{bytes_eq};
+ghost use Rattle.jobtext.specs.Names.{name_in};
+
 use page::Page;
-use text::{part, same};
+use std::alloc::{AllocError, Global};
+use std::marker::Model;
 
-pub(crate) const MOST_NAME: usize = 32;
+// The bytes of the longest name.
+const MOST_NAME: usize = 32;
 
-// The bytes of each name, and how many they are: none where a job goes by its number.
-#[derive(Clone, Copy)]
+// The name of each job. A job that has none goes by its number.
+#[derive(Drop)]
 pub struct Names {
-    letters: [u8; MOST_JOBS * MOST_NAME],
-    sizes: [usize; MOST_JOBS],
+    names: Vec<String>,
+}
+
+// The bytes of each name.
+impl Model for Names {
+    ghost use Rattle.std.specs.Prelude.{ℕ, List, map};
+    ghost use Rattle.std.specs.String.{string_bytes};
+
+    ghost Value = { List (List ℕ) };
+
+    ghost view = { λ n. map string_bytes n.names.items };
 }
 
 impl Names {
     // Every job goes by its number.
-    pub fn none() -> Self {
+    pub fn none(alloc: Global) -> Self
+        ensures { result ≡ [] }
+    {
         Names {
-            letters: [0u8; MOST_JOBS * MOST_NAME],
-            sizes: [0usize; MOST_JOBS],
+            names: Vec::new(alloc),
         }
     }
 
-    // The names with one more.
-    pub(crate) fn with(self, j: usize, name: &[u8]) -> Self {
-        let mut letters = self.letters;
-        let mut sizes = self.sizes;
-        copy_in(&mut letters, letter_at(j, 0), name);
-        if j < MOST_JOBS {
-            sizes[j] = name.len();
-        }
-        Names {
-            letters: letters,
-            sizes: sizes,
+    // One name more, of the next job.
+    pub(crate) fn add(&mut self, name: &str) -> Result<(), AllocError>
+        ensures { self.new ≡ (if is_ok result then self.old ++ name.now ∷ [] else self.old) }
+    {
+        let alloc = *self.names.allocator();
+        self.names.push(String::from_str(alloc, name)?)?;
+        Ok(())
+    }
+
+    // The bytes of a job's name; none where it goes by its number.
+    pub fn letters(&self, j: usize) -> &[u8]
+        ensures { result.now ≡ name_in self.now j }
+    {
+        match self.names.get(j) {
+            Some(name) => name.as_bytes(),
+            None => b"",
         }
     }
 
     // How many bytes a job's name has; 0 where it goes by its number.
-    pub fn size(self, j: usize) -> usize {
-        if j < MOST_JOBS {
-            return self.sizes[j];
-        }
-        0
+    pub fn size(&self, j: usize) -> usize
+        ensures { result ≡ length (name_in self.now j) }
+    {
+        self.letters(j).len()
     }
 
     // How many columns a job's name takes, or its number with the letter j.
-    pub fn width(self, j: usize) -> usize {
-        let size = self.size(j);
-        if size == 0 {
-            return page::plus(1, page::digits(j));
+    pub fn width(&self, j: usize) -> usize {
+        match self.size(j) {
+            0 => page::digits(j).saturating_add(1),
+            size => size,
         }
-        size
     }
 
-    // Byte i of a job's name.
-    pub fn letter(self, j: usize, i: usize) -> u8 {
-        let letters = self.letters;
-        text::byte_at(&letters, letter_at(j, i))
-    }
-
-    // Whether a job has the name.
-    fn is(self, j: usize, name: &[u8]) -> bool {
-        let letters = self.letters;
-        let from = letter_at(j, 0);
-        same(part(&letters, from, page::plus(from, self.size(j))), name)
-    }
-
-    // The job of a name; one past the last where there is none.
-    pub fn job_of(self, name: &[u8]) -> usize {
-        for j in 0..MOST_JOBS {
-            if self.is(j, name) {
-                return j;
-            }
-        }
-        MOST_JOBS
+    // The job of a name.
+    pub fn job_of(&self, name: &[u8]) -> Option<usize>
+        ensures { result ≡ position (λ n. bytes_eq n name.now) self.now }
+    {
+        self.names.iter().position(|n| n.as_bytes() == name)
     }
 
     // Puts a job's name, or no more of it than k bytes; its number where it goes by that.
-    pub fn put_start(self, page: Page, j: usize, k: usize) -> Page {
-        let size = self.size(j);
-        if size == 0 {
-            return page.put(b"j").number(j);
+    pub fn put_start(&self, page: Page, j: usize, k: usize) -> Page {
+        let name = self.letters(j);
+        if name.is_empty() {
+            return put_number(page, j);
         }
-        let letters = self.letters;
-        let from = letter_at(j, 0);
-        page.put(part(&letters, from, page::plus(from, page::lower(size, k))))
+        page.put(&name[..k.min(name.len())])
     }
 
     // Puts a job's name.
-    pub fn put(self, page: Page, j: usize) -> Page {
+    pub fn put(&self, page: Page, j: usize) -> Page {
         self.put_start(page, j, MOST_NAME)
     }
 }
 
-// The place of letter i of name j.
-fn letter_at(j: usize, i: usize) -> usize {
-    if j < MOST_JOBS {
-        if i < MOST_NAME {
-            return MOST_NAME * j + i;
-        }
-    }
-    MOST_NAME * MOST_JOBS
+// Puts the number of a job, as one without a name goes by.
+pub(crate) fn put_number(page: Page, j: usize) -> Page {
+    page.put(b"j").number(j)
 }
 
-fn copy_in(letters: &mut [u8], at: usize, name: &[u8]) -> usize {
-    text::put(letters, at, name)
+// Bytes that can name a job, as text.
+pub(crate) fn name_of(s: &[u8]) -> Option<&str> {
+    if MOST_NAME < s.len() || !s.iter().all(|x| x.is_ascii_graphic()) {
+        return None;
+    }
+    str::from_utf8(s).ok()
 }

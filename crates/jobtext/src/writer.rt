@@ -1,10 +1,10 @@
 // A list's bytes as text that can be read again.
 use crate::list;
-use crate::names::Names;
+use crate::names::{Names, put_number};
 use page::Page;
 
 // An edge, as it is written in a list.
-pub fn put_edge(page: Page, list: &[u8], names: Names, e: usize) -> Page {
+pub fn put_edge(page: Page, list: &[u8], names: &Names, e: usize) -> Page {
     let first = names.put(page, list::edge_from(list, e));
     names.put(first.put(b" before "), list::edge_to(list, e))
 }
@@ -24,30 +24,24 @@ fn put_budgets(page: Page, list: &[u8], j: usize) -> Page {
 
 // A line for a job.
 fn put_job(page: Page, list: &[u8], j: usize) -> Page {
-    let named = Names::none()
-        .put(page, j)
-        .put(b" ")
-        .number(list::arrival(list, j));
+    let named = put_number(page, j).put(b" ").number(list::arrival(list, j));
     put_budgets(named.put(b" ").number(list::deadline(list, j)), list, j).end()
 }
 
-fn put_jobs(page: Page, list: &[u8]) -> Page {
-    let mut to = page;
-    for j in 0..list::jobs(list) {
-        to = put_job(to, list, j);
-    }
-    to
-}
-
-fn put_edges(page: Page, list: &[u8]) -> Page {
-    let mut to = page;
-    for e in 0..list::edges(list) {
-        to = put_edge(to, list, Names::none(), e).end();
-    }
-    to
+// A line for an edge.
+fn put_numbers(page: Page, list: &[u8], e: usize) -> Page {
+    let first = put_number(page, list::edge_from(list, e));
+    put_number(first.put(b" before "), list::edge_to(list, e)).end()
 }
 
 // The whole list. A plan has no names, so jobs go by their numbers.
 pub fn put_list(page: Page, list: &[u8]) -> Page {
-    put_edges(put_jobs(page, list), list)
+    let mut to = page;
+    for j in 0..list::jobs(list) {
+        to = put_job(to, list, j);
+    }
+    for e in 0..list::edges(list) {
+        to = put_numbers(to, list, e);
+    }
+    to
 }
