@@ -1,8 +1,9 @@
 -- What a search from the front or from the back finds, said by `lowest`, `highest` and the first refusal.
 -- Assumes nothing.
-use Rattle.std.proofs.Common.{◌≡◌, ◌∙◌, refl, sym, ap, ℕ, zero, suc, ◌+◌, ◌-◌, ◌<◌, ◌≤◌, Bool, true, false, cond, Option, Some, None, Result, Ok, Err, MatchOption, unwrap_or, arith}
+use Rattle.std.proofs.Common.{◌≡◌, ◌∙◌, refl, sym, ap, ℕ, zero, suc, ◌+◌, ◌-◌, ◌<◌, ◌≤◌, Bool, true, false, cond, Option, Some, None, Result, Ok, Err, MatchOption, unwrap_or, ltb, arith}
 use Rattle.std.specs.Result.{result_and}
 use native.Mathlib.Decide.{dec_lt}
+use borrow.Author.Tests.{lt-ltb, le-ltb}
 use Rattle.basics.specs.Find.{lowest, highest}
 use Rattle.basics.specs.Turns.{turns}
 use Rattle.basics.proofs.Find.{lowest_skip, lowest_hit, lowest_end, highest_step}
@@ -32,6 +33,11 @@ module _ (f : ℕ → Bool) (n a : ℕ) where
       go (yes l) = lowest_end f n a (omega arith)
       go (no l) = to n (omega arith) (omega arith) p ∙ lowest_end f n n (omega arith)
   first_lowest (Some i) p = sym (to i p.0 (omega arith) p.3 ∙ lowest_hit f n i p.1 p.2)
+
+  -- the same as an option
+  pub first_found : (r : Option ℕ) → First f a n r → r ≡ cond (ltb (lowest f n a) n) (Some (lowest f n a)) None
+  first_found None p = let e : n ≡ lowest f n a = first_lowest None p in rw (← e, le-ltb n n (omega arith))
+  first_found (Some i) p = let e : i ≡ lowest f n a = first_lowest (Some i) p in rw (← e, lt-ltb i n p.1)
 
 -- from the back: the number before x passes, or is passed over
 module _ (f : ℕ → Bool) (t x : ℕ) (some : 0 < x) where

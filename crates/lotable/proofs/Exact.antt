@@ -18,17 +18,17 @@ use mathlib.Core.Logic.{◌⊎◌, inl, inr}
 use mathlib.Core.Path.{◌≡◌, refl, sym, ap₂, ◌∙◌}
 use Prim.Native.Nat.{ℕ, zero, suc, ◌+◌, ◌≤◌, ◌<◌}
 use Rattle.late.specs.Table.{entry, units, all_idle, held, waits}
-use Rattle.late.specs.declared.Late.TheVariants.{Fine as OnTime}
 use Rattle.late.specs.Late.{late_of}
 use Rattle.late.proofs.Units.{one, units_step, units_zero, units_set, units_set_at}
 use Rattle.late.proofs.First.{tlo_long, thi_long}
 use Rattle.late.proofs.Kept.{late_units}
 use Rattle.basics.proofs.Turns.{turns_each}
-use Rattle.lotable.specs.declared.Pick.{Pick}
-use Rattle.lotable.specs.declared.Pick.TheVariants.{Low, High, Idle, Both, Early}
-use Rattle.lotable.specs.declared.Clash.{Clash}
-use Rattle.lotable.specs.declared.Clash.TheVariants.{Fine, BothAt, EarlyAt}
-use Rattle.lotable.specs.TableLo.{or_else, clash, take, Tables, fits, later, pick, unplaced, pick_at, tables_at, clash_at, clash_in, begins, clash_of, table_lo}
+use Rattle.late.proofs.Lateness.{both_ok}
+use Rattle.std.specs.Prelude.{Some, None, Ok, Err}
+use Rattle.std.specs.Result.{result_and}
+use Rattle.lotable.specs.declared.Source.TheVariants.{Low, High}
+use Rattle.lotable.specs.declared.Clash.TheVariants.{BothAt, EarlyAt}
+use Rattle.lotable.specs.TableLo.{Pick, clash, take, Tables, fits, later, pick, unplaced, pick_at, tables_at, clash_at, clash_in, begins, clash_of, table_lo}
 use Rattle.lotable.proofs.Laws.{tables_zero, tables_step}
 
 -- a slot that is filled
@@ -73,7 +73,7 @@ module _ (s : List ℕ) (few : jobs s ≤ 254) where
       go (no q) = before x (omega arith)
 
   module _ (p : Tables) (t : ℕ) (g : Going p t) (h : t < slots s) where
-    by_low : (k : ℕ) → k < slots s → (k ≡ t) ⊎ (jobs s ≤ entry p.low t) → jobs s ≤ entry p.high t → Going (take p t (Low k)) (t + 1)
+    by_low : (k : ℕ) → k < slots s → (k ≡ t) ⊎ (jobs s ≤ entry p.low t) → jobs s ≤ entry p.high t → Going (take p t (Ok (Some (Low k)))) (t + 1)
     by_low k i at high-at =
         record {
           lows = length-set p.low k idle ∙ g.lows;
@@ -86,7 +86,7 @@ module _ (s : List ℕ) (few : jobs s ≤ 254) where
           high_past = stays p.high t g.high_past high-at;
         }
 
-    by_high : (k : ℕ) → k < slots s → (k ≡ t) ⊎ (jobs s ≤ entry p.high t) → jobs s ≤ entry p.low t → Going (take p t (High k)) (t + 1)
+    by_high : (k : ℕ) → k < slots s → (k ≡ t) ⊎ (jobs s ≤ entry p.high t) → jobs s ≤ entry p.low t → Going (take p t (Ok (Some (High k)))) (t + 1)
     by_high k i at low-at =
         record {
           lows = g.lows;
@@ -99,7 +99,7 @@ module _ (s : List ℕ) (few : jobs s ≤ 254) where
           high_past = past p.high k t g.highs i g.high_past at;
         }
 
-    by_idle : jobs s ≤ entry p.low t → jobs s ≤ entry p.high t → Going (take p t Idle) (t + 1)
+    by_idle : jobs s ≤ entry p.low t → jobs s ≤ entry p.high t → Going (take p t (Ok None)) (t + 1)
     by_idle low-at high-at =
         record {
           lows = g.lows;
@@ -110,7 +110,7 @@ module _ (s : List ℕ) (few : jobs s ≤ 254) where
           high_past = stays p.high t g.high_past high-at;
         }
 
-    by_later : (waiting : ℕ → Bool) → jobs s ≤ entry p.low t → jobs s ≤ entry p.high t → Going (take p t (later s waiting p.low p.high t)) (t + 1)
+    by_later : (waiting : ℕ → Bool) → jobs s ≤ entry p.low t → jobs s ≤ entry p.high t → Going (take p t (Ok (later s waiting p.low p.high t))) (t + 1)
     unfolding later
     by_later waiting low-at high-at = go (ltb a (slots s)) refl (ltb b (slots s)) refl
       where
@@ -120,12 +120,12 @@ module _ (s : List ℕ) (few : jobs s ≤ 254) where
         b : ℕ
         b = lowest (fits s waiting p.high t) (slots s) (t + 1)
 
-        go : (x : Bool) → ltb a (slots s) ≡ x → (y : Bool) → ltb b (slots s) ≡ y → Going (take p t (cond x (Low a) (cond y (High b) Idle))) (t + 1)
+        go : (x : Bool) → ltb a (slots s) ≡ x → (y : Bool) → ltb b (slots s) ≡ y → Going (take p t (Ok (cond x (Some (Low a)) (cond y (Some (High b)) None)))) (t + 1)
         go true e y f = by_low a (ltb-true a (slots s) e) (inr low-at) high-at
         go false e true f = by_high b (ltb-true b (slots s) f) (inr high-at) low-at
         go false e false f = by_idle low-at high-at
 
-    going_next : clash t (pick_at s p t) ≡ Fine → Going (take p t (pick_at s p t)) (t + 1)
+    going_next : clash (pick_at s p t) ≡ Ok tt → Going (take p t (pick_at s p t)) (t + 1)
     unfolding pick
     going_next = go (held s p.high t) refl (held s p.low t) refl (waiting (entry p.low t))
       where
@@ -133,21 +133,17 @@ module _ (s : List ℕ) (few : jobs s ≤ 254) where
         waiting = waits s (unplaced s p.lo t)
 
         which : Bool → Bool → Bool → Pick
-        which x y z = cond x (cond y Both (High t)) (cond y (cond z Early (Low t)) (later s waiting p.low p.high t))
+        which x y z =
+            cond x (cond y (Err (BothAt t)) (Ok (Some (High t)))) (cond y (cond z (Err (EarlyAt t)) (Ok (Some (Low t)))) (Ok (later s waiting p.low p.high t)))
 
-        go : (x : Bool) → held s p.high t ≡ x → (y : Bool) → held s p.low t ≡ y → (z : Bool) → clash t (which x y z) ≡ Fine → Going (take p t (which x y z)) (t + 1)
-        go true e true f z c = let q : ◌≡◌ {A = ℕ} 0 1 = cc in absurd (omega arith)
+        go : (x : Bool) → held s p.high t ≡ x → (y : Bool) → held s p.low t ≡ y → (z : Bool) → clash (which x y z) ≡ Ok tt → Going (take p t (which x y z)) (t + 1)
+        go true e true f z c = absurd (cc)
         go true e false f z c = by_high t h (inl refl) (ltb-false _ _ f)
-        go false e true f true c = let q : ◌≡◌ {A = ℕ} 0 1 = cc in absurd (omega arith)
+        go false e true f true c = absurd (cc)
         go false e true f false c = by_low t h (inl refl) (ltb-false _ _ e)
         go false e false f z c = by_later waiting (ltb-false _ _ f) (ltb-false _ _ e)
 
-fine_both : (x y : Clash) → or_else x y ≡ Fine → (x ≡ Fine) × (y ≡ Fine)
-fine_both Fine y h = (refl, h)
-fine_both (BothAt t) y h = let z : ◌≡◌ {A = ℕ} 0 1 = cc in absurd (omega arith)
-fine_both (EarlyAt t) y h = let z : ◌≡◌ {A = ℕ} 0 1 = cc in absurd (omega arith)
-
-module _ (lim : Limits) (s : List ℕ) (acc : Accepted lim s) (few : jobs s ≤ 254) (low-fine : late_of s 0 ≡ OnTime) (high-fine : late_of s 1 ≡ OnTime) (fine : clash_of s ≡ Fine) where
+module _ (lim : Limits) (s : List ℕ) (acc : Accepted lim s) (few : jobs s ≤ 254) (low-fine : late_of s 0 ≡ Ok tt) (high-fine : late_of s 1 ≡ Ok tt) (fine : clash_of s ≡ Ok tt) where
   going : (t : ℕ) → t ≤ slots s → Going s few (tables_at s (begins s) t) t
   unfolding clash_of clash_in
   going zero h =
@@ -162,7 +158,7 @@ module _ (lim : Limits) (s : List ℕ) (acc : Accepted lim s) (few : jobs s ≤ 
       })
   going (suc t) h =
       rw (← add-one t, tables_step s (begins s) t)
-      (going_next s few (tables_at s (begins s) t) t (going t (omega arith)) (omega arith) (turns_each or_else Fine fine_both (clash_at s (begins s)) (slots s) t fine (omega arith)))
+      (going_next s few (tables_at s (begins s) t) t (going t (omega arith)) (omega arith) (turns_each result_and (Ok tt) both_ok (clash_at s (begins s)) (slots s) t fine (omega arith)))
 
   -- table LO names each job exactly CLO times
   pub lo_exact : (j : ℕ) → j < jobs s → units (table_lo s) (slots s) j ≡ ordinary s j

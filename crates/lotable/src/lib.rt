@@ -1,149 +1,125 @@
 // Table LO. All functions here are inner ones: they are called on lists that the list's check accepts, and on tables of L bytes.
 #![tactic(auto)]
 
-ghost use Rattle.std.specs.Prelude.{◌≡◌, Bool, true, false, ℕ, ◌+◌, ◌<◌, ◌≤◌, length, ltb};
+ghost use Rattle.std.specs.Prelude.{◌≡◌, Bool, true, false, cond, ℕ, ◌+◌, ◌<◌, ◌≤◌, length, ltb, Ok, Err, Some, None};
 ghost use Rattle.basics.specs.Find.{lowest};
-ghost use Rattle.basics.specs.Units.{units_of};
-ghost use Rattle.basics.specs.Limits.{first_edition};
-ghost use Rattle.joblist.specs.Fields.{jobs, slots, ordinary};
-ghost use Rattle.joblist.specs.Accepted.{Accepted};
+ghost use Rattle.joblist.specs.Fields.{jobs, slots};
 ghost use Rattle.late.specs.Table.{marked};
 ghost use Rattle.lotable.specs.TableLo.{before, Tables, fits, later, pick, tables_at, clash_in};
 
-use joblist::{MOST_JOBS, Table, arrival_of, jobs_of, ordinary_of, wide};
-use late::{one_more, waiting_of, wide16};
+use joblist::{MOST_JOBS, Table, arrival_of, jobs_of, ordinary_of};
+use late::{List, one_more, undone_of, waiting_of};
+use std::mem;
 
-// Where the unit of a slot comes from: a slot of a late table, or none; or why there is no unit.
-#[derive(Drop)]
-pub enum Pick {
+// Where the unit of a slot comes from: a slot of a late table.
+#[derive(Clone, Copy)]
+pub enum Source {
     Low(usize),
     High(usize),
-    Idle,
-    Both,
-    Early,
 }
 
-// Why there is no table LO, with the slot; or none.
-#[derive(Drop)]
+// Why there is no table LO, with the slot.
+#[derive(Clone, Copy)]
 pub enum Clash {
-    Fine,
     BothAt(usize),
     EarlyAt(usize),
 }
 
-// The jobs that have not all their CLO units in table LO yet.
-fn unplaced_of(s: &[u8], placed: &[u16; MOST_JOBS]) -> [bool; MOST_JOBS]
-    requires { Accepted first_edition s.now }
-    ensures { (j : ℕ) → j < jobs s.now → marked result j ≡ ltb (units_of placed.now j) (ordinary s.now j) }
-{
-    let mut r = [false; MOST_JOBS];
-    for j in 0..jobs_of(s) {
-        r[j] = wide16(placed[j]) < ordinary_of(s, j);
-    }
-    r
+// The late tables at the opening of a slot, and the jobs that wait there.
+#[derive(Clone, Copy)]
+struct Opening<'a> {
+    list: List<'a>,
+    waiting: &'a [bool; MOST_JOBS],
+    low: &'a [u8],
+    high: &'a [u8],
+    slot: usize,
+    ghost low_long: { length low.now ≡ slots list.bytes.now },
+    ghost high_long: { length high.now ≡ slots list.bytes.now },
+    ghost in_frame: { slot < slots list.bytes.now },
 }
 
-// Whether the unit in slot k of a late table may be taken at t.
-#[tactic(auto, unfolding(crate::specs::TableLo::fits))]
-fn fits_at(s: &[u8], waiting: &[bool; MOST_JOBS], table: &[u8], t: usize, k: usize) -> bool
-    requires { Accepted first_edition s.now × (k < length table.now) }
-    ensures { result ≡ fits s.now (marked waiting.now) table.now t k }
-{
-    let j = wide(table[k]);
-    if jobs_of(s) <= j {
-        return false;
+impl Opening<'_> {
+    // Whether the unit in slot k of a late table may be taken.
+    #[tactic(auto, unfolding(crate::specs::TableLo::fits))]
+    fn fits(&self, table: &[u8], k: usize) -> bool
+        requires { k < length table.now }
+        ensures { result ≡ fits self.now.list.bytes.now (marked self.now.waiting.now) table.now self.now.slot k }
+    {
+        let list = self.list.bytes;
+        let j = usize::from(table[k]);
+        j < jobs_of(list) && arrival_of(list, j) <= self.slot && !self.waiting[j]
     }
-    if t < arrival_of(s, j) {
-        return false;
-    }
-    !waiting[j]
-}
 
-// The lowest slot after t of a late table whose unit may be taken at t, or L.
-#[tactic(auto, using(basics::proofs::Find::lowest_hit, basics::proofs::Find::lowest_skip, basics::proofs::Find::lowest_end))]
-fn first_fit(s: &[u8], waiting: &[bool; MOST_JOBS], table: &[u8], t: usize) -> usize
-    requires { Accepted first_edition s.now × (length table.now ≡ slots s.now) × (t < slots s.now) }
-    ensures { result ≡ lowest (fits s.now (marked waiting.now) table.now t) (slots s.now) (t + 1) }
-{
-    let l = table.len();
-    for k in t + 1..l {
-        if fits_at(s, waiting, table, t, k) {
-            return k;
+    // The lowest later slot of a late table whose unit may be taken.
+    fn first_fit(&self, table: &[u8]) -> Option<usize>
+        requires { length table.now ≡ slots self.now.list.bytes.now }
+        ensures { let s = self.now.list.bytes.now in
+            let k = lowest (fits s (marked self.now.waiting.now) table.now self.now.slot) (slots s) (self.now.slot + 1) in
+            result ≡ cond (ltb k (slots s)) (Some k) None }
+    {
+        (self.slot + 1..table.len()).find(|&k| self.fits(table, k))
+    }
+
+    // The unit for a slot at which neither late table holds a job.
+    #[tactic(auto, unfolding(crate::specs::TableLo::later))]
+    fn later(&self) -> Option<Source>
+        ensures { result ≡ later self.now.list.bytes.now (marked self.now.waiting.now) self.now.low.now self.now.high.now self.now.slot }
+    {
+        if let Some(k) = self.first_fit(self.low) {
+            return Some(Source::Low(k));
+        }
+        self.first_fit(self.high).map(Source::High)
+    }
+
+    // The unit for the slot.
+    #[tactic(auto, unfolding(crate::specs::TableLo::pick))]
+    fn pick(&self) -> Result<Option<Source>, Clash>
+        ensures { result ≡ pick self.now.list.bytes.now (marked self.now.waiting.now) self.now.low.now self.now.high.now self.now.slot }
+    {
+        let n = jobs_of(self.list.bytes);
+        let t = self.slot;
+        let j = usize::from(self.low[t]);
+        match (j < n, usize::from(self.high[t]) < n) {
+            (true, true) => Err(Clash::BothAt(t)),
+            (false, true) => Ok(Some(Source::High(t))),
+            (true, false) if self.waiting[j] => Err(Clash::EarlyAt(t)),
+            (true, false) => Ok(Some(Source::Low(t))),
+            (false, false) => Ok(self.later()),
         }
     }
-    l
-}
-
-// The unit for a slot at which neither late table holds a job.
-#[tactic(auto, unfolding(crate::specs::TableLo::later))]
-fn later_of(s: &[u8], waiting: &[bool; MOST_JOBS], low: &[u8], high: &[u8], t: usize) -> Pick
-    requires { Accepted first_edition s.now × (length low.now ≡ slots s.now) × (length high.now ≡ slots s.now) × (t < slots s.now) }
-    ensures { result ≡ later s.now (marked waiting.now) low.now high.now t }
-{
-    let l = low.len();
-    let k = first_fit(s, waiting, low, t);
-    if k < l {
-        return Pick::Low(k);
-    }
-    let h = first_fit(s, waiting, high, t);
-    if h < l {
-        return Pick::High(h);
-    }
-    Pick::Idle
-}
-
-// The unit for slot t.
-#[tactic(auto, unfolding(crate::specs::TableLo::pick))]
-fn pick_at(s: &[u8], waiting: &[bool; MOST_JOBS], low: &[u8], high: &[u8], t: usize) -> Pick
-    requires { Accepted first_edition s.now × (length low.now ≡ slots s.now) × (length high.now ≡ slots s.now) × (t < slots s.now) }
-    ensures { result ≡ pick s.now (marked waiting.now) low.now high.now t }
-{
-    let n = jobs_of(s);
-    let x = wide(low[t]);
-    if wide(high[t]) < n {
-        if x < n {
-            return Pick::Both;
-        }
-        return Pick::High(t);
-    }
-    if x < n {
-        if waiting[x] {
-            return Pick::Early;
-        }
-        return Pick::Low(t);
-    }
-    later_of(s, waiting, low, high, t)
 }
 
 // Table LO into out, and what is left of the late tables; up to the first slot with 22 or 23.
-pub fn table_lo(s: &[u8], low: &mut [u8], high: &mut [u8], out: &mut [u8]) -> Clash
-    requires { Accepted first_edition s.now × (length low.old ≡ slots s.now) × (length high.old ≡ slots s.now) × (length out.old ≡ slots s.now) }
-    ensures { (result ≡ clash_in s.now (record { low = low.old; high = high.old; lo = out.old }))
+pub fn table_lo(
+    list: List<'_>,
+    low: &mut [u8],
+    high: &mut [u8],
+    out: &mut [u8],
+) -> Result<(), Clash>
+    requires { (length low.old ≡ slots list.bytes.now) × (length high.old ≡ slots list.bytes.now) × (length out.old ≡ slots list.bytes.now) }
+    ensures { (result ≡ clash_in list.entry.bytes.now (record { low = low.old; high = high.old; lo = out.old }))
         × (record { low = low.new; high = high.new; lo = out.new }
-        ≡ tables_at s.now (record { low = low.old; high = high.old; lo = out.old }) (before (slots s.now) result)) }
+        ≡ tables_at list.entry.bytes.now (record { low = low.old; high = high.old; lo = out.old }) (before (slots list.entry.bytes.now) result)) }
 {
-    let n = jobs_of(s);
-    let l = out.len();
+    let n = jobs_of(list.bytes);
     let mut placed = [0u16; MOST_JOBS];
-    for t in 0..l {
-        let waiting = waiting_of(s, &unplaced_of(s, &placed));
-        let p = pick_at(s, &waiting, low, high, t);
-        let mut v = Table::IDLE;
-        match p {
-            Pick::Low(k) => {
-                v = low[k];
-                low[k] = Table::IDLE;
-            }
-            Pick::High(k) => {
-                v = high[k];
-                high[k] = Table::IDLE;
-            }
-            Pick::Idle => {}
-            Pick::Both => return Clash::BothAt(t),
-            Pick::Early => return Clash::EarlyAt(t),
-        }
-        out[t] = v;
-        placed = one_more(n, placed, wide(v));
+    for (slot, unit) in out.iter_mut().enumerate() {
+        let undone = undone_of(list, &placed, |j| ordinary_of(list.bytes, j));
+        let waiting = &waiting_of(list, &undone);
+        let opening = Opening {
+            list,
+            waiting,
+            low,
+            high,
+            slot,
+        };
+        let source = opening.pick()?;
+        *unit = match source {
+            Some(Source::Low(k)) => mem::replace(&mut low[k], Table::IDLE),
+            Some(Source::High(k)) => mem::replace(&mut high[k], Table::IDLE),
+            None => Table::IDLE,
+        };
+        placed = one_more(n, placed, usize::from(*unit));
     }
-    Clash::Fine
+    Ok(())
 }
