@@ -1,15 +1,14 @@
 -- What C is handed: places and answers as records of numbers.
 -- Assumes nothing.
-use Rattle.std.specs.Prelude.{ℕ}
+use Rattle.std.specs.Prelude.{ℕ, Result, Ok, Err}
 use Rattle.joblist.specs.declared.Place.{Place as ListPlace}
 use Rattle.joblist.specs.declared.Place.TheVariants.{Nowhere, AtJob, AtEdge}
 use Rattle.verdict.specs.declared.Fault.{Fault}
 use Rattle.verdict.specs.declared.Fault.TheVariants.{Late, Early, Before}
 use Rattle.verdict.specs.declared.Spot.{Spot}
 use Rattle.verdict.specs.declared.Spot.TheVariants.{InList, AtSlot, AtFault}
+use Rattle.verdict.specs.Answer.{Verdict}
 use Rattle.verdict.specs.Numbers.{answer_number, place_of}
-use Rattle.verdict.specs.declared.Verdict.{Verdict}
-use Rattle.verdict.specs.declared.Verdict.TheVariants.{Yes, No}
 use Rattle.merge.specs.declared.BuildPlace.{BuildPlace}
 use Rattle.merge.specs.declared.BuildPlace.TheVariants.{InList as OfList, AtJob as AtSlotAndJob, AtSlot as AtSlotAlone, Answer as OfCheck}
 use Rattle.hut.specs.declared.Place.{Place}
@@ -53,8 +52,8 @@ spot_place (AtFault f) = fault_place f
 
 -- the place of the check's answer
 abbrev pub verdict_place : Verdict → Place
-verdict_place Yes = nowhere
-verdict_place (No w) = spot_place (place_of w)
+verdict_place (Ok u) = nowhere
+verdict_place (Err w) = spot_place (place_of w)
 
 -- a place of a build: the list's, a slot and a job, a slot, or for 24 the check's number and place
 abbrev pub build_place : BuildPlace → Place
@@ -66,3 +65,8 @@ build_place (OfCheck v) = with_fault (answer_number v) (verdict_place v)
 -- a number with its place
 abbrev pub says : ℕ → Place → Answer
 says n p = record { number = n; place = p; order = absent; length = absent }
+
+-- the number that a yes brings; a no has none
+abbrev pub brought : {W : Type 0} → Result ℕ W → ℕ
+brought (Ok n) = n
+brought (Err w) = absent

@@ -104,7 +104,7 @@ impl Answer {
 pub extern "C" fn hut_check(list: &[u8], lo: &[u8], hi: &[u8]) -> Answer
     ensures { result ≡ check_answer (check_of first_edition list.now lo.now hi.now) }
 {
-    answers::check_answer(verdict::check(list, lo, hi))
+    verdict::check(list, lo, hi).into()
 }
 
 // What the bytes are: a plan, with its counts, or why not.
@@ -112,7 +112,7 @@ pub extern "C" fn hut_check(list: &[u8], lo: &[u8], hi: &[u8]) -> Answer
 pub extern "C" fn hut_read(plan: &[u8]) -> ReadResult
     ensures { result ≡ read_result (read_of first_edition plan.now) }
 {
-    answers::read_result(planfile::read(plan))
+    planfile::read(plan).into()
 }
 
 // The plan of a list and two tables, at the front of `out`; no byte of it changes where the answer is no.
@@ -121,7 +121,7 @@ pub extern "C" fn hut_write(list: &[u8], lo: &[u8], hi: &[u8], out: &mut [u8]) -
     ensures { (result ≡ write_answer (write_of first_edition list.now lo.now hi.now (length out.old)))
         × (out.new ≡ out_after first_edition list.now lo.now hi.now out.old) }
 {
-    answers::write_answer(planfile::write(list, lo, hi, out))
+    planfile::write(list, lo, hi, out).into()
 }
 
 // The plan that the merge method makes of a list, at the front of `out`; no byte of it changes where the answer is no.
@@ -130,7 +130,7 @@ pub extern "C" fn hut_build(list: &[u8], out: &mut [u8]) -> Answer
     ensures { (result ≡ build_answer (build_of first_edition list.now (length out.old)))
         × (out.new ≡ built_into first_edition list.now out.old) }
 {
-    answers::build_answer(merge::build(list, out))
+    merge::build(list, out).into()
 }
 
 // A state for the plan in the bytes, whose next tick is `first`: by value, for C to keep. All zero where the answer is no.
@@ -140,11 +140,9 @@ pub extern "C" fn hut_open(plan: &[u8], first: u16) -> Running
     ensures { result ≡ opened (open_of first_edition plan.now first) }
 {
     let o = dispatch::open::open(plan, first);
-    let a = o.answer;
-    let state = o.state;
     Running {
-        answer: answers::read_answer(a),
-        state: state,
+        answer: o.answer.into(),
+        state: o.state,
         rest: 0,
     }
 }
@@ -176,11 +174,9 @@ pub fn step_parts<'a, 'b>(
         tick,
         ended != 0,
     );
-    let a = t.answer;
-    let next = t.head;
     Moved {
-        answer: answers::step_answer(a),
-        head: next,
+        answer: t.answer.into(),
+        head: t.head,
     }
 }
 
@@ -213,10 +209,8 @@ pub extern "C" fn hut_why(list: &[u8], lo: &[u8], hi: &[u8], needs: &mut [u16; M
         × (needs.new ≡ why_needs first_edition list.now lo.now hi.now) }
 {
     let w = witness::witness(list, lo, hi);
-    let v = w.verdict;
-    let each = w.needs;
-    *needs = each;
-    answers::check_answer(v)
+    *needs = w.needs;
+    w.verdict.into()
 }
 
 // Appends a plan to the log in a store: it is zeroed from its last byte back to the end of the last whole plan, and the plan written forwards. No byte changes where the answer is no.
@@ -225,7 +219,7 @@ pub extern "C" fn hut_log_append(store: &mut [u8], plan: &[u8]) -> LogAnswer
     ensures { (result ≡ append_answer (append_of first_edition store.old plan.now) (length plan.now))
         × (store.new ≡ appended_store first_edition store.old plan.now) }
 {
-    log::append_answer(planlog::append(store, plan), plan.len())
+    LogAnswer::of_append(planlog::append(store, plan), plan.len())
 }
 
 // The newest whole plan of a store.
@@ -233,7 +227,7 @@ pub extern "C" fn hut_log_append(store: &mut [u8], plan: &[u8]) -> LogAnswer
 pub extern "C" fn hut_log_newest(store: &[u8]) -> LogAnswer
     ensures { result ≡ found_answer (newest_of first_edition store.now) }
 {
-    log::found_answer(logwalk::newest(store))
+    logwalk::newest(store).into()
 }
 
 // The plan that ends at `end`: from the newest one's end, and then from each start, all of them newest first.
@@ -241,7 +235,7 @@ pub extern "C" fn hut_log_newest(store: &[u8]) -> LogAnswer
 pub extern "C" fn hut_log_previous(store: &[u8], end: usize) -> LogAnswer
     ensures { result ≡ found_answer (previous_of first_edition store.now end) }
 {
-    log::found_answer(logwalk::previous(store, end))
+    logwalk::previous(store, end).into()
 }
 
 // What `hut_log_append` would answer. It only reads.
@@ -249,13 +243,13 @@ pub extern "C" fn hut_log_previous(store: &[u8], end: usize) -> LogAnswer
 pub extern "C" fn hut_log_room(store: &[u8], plan: &[u8]) -> LogAnswer
     ensures { result ≡ append_answer (append_of first_edition store.now plan.now) (length plan.now) }
 {
-    log::append_answer(planlog::room_for(store, plan), plan.len())
+    LogAnswer::of_append(planlog::room_for(store, plan), plan.len())
 }
 
 // Write k of an append that puts the plan at `at` in a store of so many bytes; a place past the store where there is none.
 #[unsafe(no_mangle)]
 pub extern "C" fn hut_log_write(size: usize, at: usize, plan: &[u8], k: usize) -> LogByte
-    ensures { result ≡ log_byte (nth_write size at plan.now k) }
+    ensures { result ≡ log_byte size (nth_write size at plan.now k) }
 {
-    log::log_byte(planlog::nth_write(size, at, plan, k))
+    LogByte::of(size, planlog::nth_write(size, at, plan, k))
 }
