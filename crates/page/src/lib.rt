@@ -1,7 +1,7 @@
-// Text on its way to a person: gathered on a page, which is handed on by value, and sent when it is full.
-//
-// Nothing is asked of a caller, and no piece is left out: one that is longer than a page goes by itself. Blanks are held
-// back until something follows them, so that no line ends in one.
+//! Text on its way to a person: gathered on a page, which is handed on by value, and sent when it is full.
+//!
+//! Nothing is asked of a caller, and no piece is left out: one that is longer than a page goes by itself. Blanks are held
+//! back until something follows them, so that no line ends in one.
 #![tactic(auto)]
 
 mod number;
@@ -24,8 +24,8 @@ enum Way {
     Errors,
 }
 
-// What is gathered; how many blanks are held back after it; the system and where in it the page goes; and why some of it did
-// not get there. The bytes are an array and no `Vec`: that could run out of memory in the middle of a sentence.
+/// What is gathered; how many blanks are held back after it; the system and where in it the page goes; and why some of it did
+/// not get there. The bytes are an array and no `Vec`: that could run out of memory in the middle of a sentence.
 #[derive(Drop)]
 pub struct Page {
     bytes: [u8; ROOM],
@@ -48,22 +48,22 @@ impl Page {
         }
     }
 
-    // A page for standard output.
+    /// A page for standard output.
     pub fn output(rt: &HostRuntime) -> Self {
         Page::new(*rt, Way::Output)
     }
 
-    // A page for standard error.
+    /// A page for standard error.
     pub fn errors(rt: &HostRuntime) -> Self {
         Page::new(*rt, Way::Errors)
     }
 
-    // An empty page for standard error.
+    /// An empty page for standard error.
     pub fn aside(&self) -> Self {
         Page::new(self.rt, Way::Errors)
     }
 
-    // Whether standard output is a terminal.
+    /// Whether standard output is a terminal.
     pub fn is_terminal(&self) -> bool {
         self.rt.stdout().is_terminal()
     }
@@ -76,7 +76,7 @@ impl Page {
         self
     }
 
-    // Sends what is gathered.
+    /// Sends what is gathered.
     pub fn sent(self) -> Self {
         let bytes = self.bytes;
         let size = self.size;
@@ -121,12 +121,12 @@ impl Page {
         self.repeated(b" ", blanks).trimmed()
     }
 
-    // Puts bytes.
+    /// Puts bytes.
     pub fn put(self, s: &[u8]) -> Self {
         self.fill(s, 1)
     }
 
-    // Puts the same bytes k times.
+    /// Puts the same bytes k times.
     pub fn fill(self, s: &[u8], k: usize) -> Self {
         if k == 0 || s.is_empty() {
             return self;
@@ -134,12 +134,12 @@ impl Page {
         self.spaced().repeated(s, k)
     }
 
-    // Puts the decimal digits of a number.
+    /// Puts the decimal digits of a number.
     pub fn number(self, n: usize) -> Self {
         self.number_left(n, 0)
     }
 
-    // Puts the hex digits of bytes, two a byte.
+    /// Puts the hex digits of bytes, two a byte.
     pub fn hex(self, s: &[u8]) -> Self {
         let mut page = self;
         for piece in s.chunks(HEX_PIECE) {
@@ -155,57 +155,57 @@ impl Page {
         self.put(part(&digits, 0, k))
     }
 
-    // Holds back k blanks.
+    /// Holds back k blanks.
     pub fn blank(mut self, k: usize) -> Self {
         self.blanks = self.blanks.saturating_add(k);
         self
     }
 
-    // Forgets the blanks that are held back.
+    /// Forgets the blanks that are held back.
     pub fn trimmed(mut self) -> Self {
         self.blanks = 0;
         self
     }
 
-    // Ends a line.
+    /// Ends a line.
     pub fn end(self) -> Self {
         self.trimmed().added(b"\n")
     }
 
-    // A line of text.
+    /// A line of text.
     pub fn line(self, s: &[u8]) -> Self {
         self.put(s).end()
     }
 
-    // Bytes, and blanks up to k columns.
+    /// Bytes, and blanks up to k columns.
     pub fn left(self, s: &[u8], k: usize) -> Self {
         self.put(s).blank(k.saturating_sub(s.len()))
     }
 
-    // A number, and blanks up to k columns.
+    /// A number, and blanks up to k columns.
     pub fn number_left(self, n: usize, k: usize) -> Self {
         let mut digits = [0u8; 20];
         let size = number_in(&mut digits, n);
         self.left(part(&digits, 0, size), k)
     }
 
-    // A number, with blanks before it up to k columns.
+    /// A number, with blanks before it up to k columns.
     pub fn number_right(self, n: usize, k: usize) -> Self {
         self.blank(k.saturating_sub(digits(n))).number(n)
     }
 
-    // A number and what it counts: with an s where it is not 1.
+    /// A number and what it counts: with an s where it is not 1.
     pub fn count(self, n: usize, what: &[u8]) -> Self {
         let page = self.number(n).put(b" ").put(what);
         if n == 1 { page } else { page.put(b"s") }
     }
 
-    // Sends the rest; why some of the text did not get there.
+    /// Sends the rest; why some of the text did not get there.
     pub fn loss(self) -> Option<Error> {
         self.sent().lost
     }
 
-    // Sends the rest; whether all of the text got there.
+    /// Sends the rest; whether all of the text got there.
     pub fn done(self) -> bool {
         self.loss().is_none()
     }
@@ -232,7 +232,7 @@ fn hex_in(bytes: &mut [u8], s: &[u8]) -> usize {
     text::put_hex(bytes, 0, s)
 }
 
-// How many digits a number has.
+/// How many digits a number has.
 pub fn digits(n: usize) -> usize {
     n.checked_ilog10().map_or(1, |k| k as usize + 1)
 }

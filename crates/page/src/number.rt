@@ -1,28 +1,28 @@
-// Numbers of columns and places, which never run over.
+//! Numbers of columns and places, which never run over.
 ghost use Rattle.std.specs.Prelude.{◌≡◌, ◌+◌, ◌-◌, min};
 
-// The difference; 0 where it would be below 0.
+/// The difference; 0 where it would be below 0.
 pub fn less(a: usize, b: usize) -> usize
     ensures { result ≡ a - b }
 {
     a.saturating_sub(b)
 }
 
-// The lower of two numbers.
+/// The lower of two numbers.
 pub fn lower(a: usize, b: usize) -> usize
     ensures { result ≡ min a b }
 {
     a.min(b)
 }
 
-// The sum; the largest number where it would be over that.
+/// The sum; the largest number where it would be over that.
 pub fn plus(a: usize, b: usize) -> usize
     ensures { result ≡ min (a + b) 18446744073709551615 }
 {
     a.saturating_add(b)
 }
 
-// The next number; the last is its own.
+/// The next number; the last is its own.
 pub fn after(i: usize) -> usize
     ensures { result ≡ min (i + 1) 18446744073709551615 }
 {

@@ -1,10 +1,10 @@
-// What is refused: its number and its place, and those of an answer.
+//! What is refused: its number and its place, and those of an answer.
 #![tactic(auto)]
 
 ghost use Rattle.std.specs.Prelude.{◌≡◌, ℕ};
 ghost use Rattle.refusal.specs.Answer.{number_with, place_with};
 
-// Why something is refused.
+/// Why something is refused.
 pub trait Refusal: Copy {
     type Place;
 
@@ -14,20 +14,20 @@ pub trait Refusal: Copy {
 
     ghost nowhere: { Self.Place };
 
-    // The paper's number of a refusal.
+    /// The paper's number of a refusal.
     fn number(self) -> usize
         ensures { result ≡ number self };
 
-    // The paper's place of a refusal.
+    /// The paper's place of a refusal.
     fn place(self) -> Self::Place
         ensures { result ≡ place self };
 
-    // The place of an answer that refuses nothing.
+    /// The place of an answer that refuses nothing.
     fn nowhere() -> Self::Place
         ensures { result ≡ nowhere };
 }
 
-// The number of an answer: 0 for yes.
+/// The number of an answer: 0 for yes.
 pub fn answer_number<T: Copy, W: Refusal>(answer: Result<T, W>) -> usize
     ensures { result ≡ number_with W.number answer }
 {
@@ -37,7 +37,7 @@ pub fn answer_number<T: Copy, W: Refusal>(answer: Result<T, W>) -> usize
     }
 }
 
-// The place of an answer.
+/// The place of an answer.
 pub fn answer_place<T: Copy, W: Refusal>(answer: Result<T, W>) -> W::Place
     ensures { result ≡ place_with W.nowhere W.place answer }
 {

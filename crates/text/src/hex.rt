@@ -1,4 +1,4 @@
-// Bytes as hex text, two digits a byte, in lower case; and back.
+//! Bytes as hex text, two digits a byte, in lower case; and back.
 ghost use Rattle.std.specs.Prelude.{◌≡◌, true, ◌+◌, ◌*◌, ◌<◌, ◌≤◌, length};
 ghost use Rattle.basics.specs.Put.{put as placed};
 ghost use Rattle.io.specs.Digits.{hex_digit_ascii as glyph_of};
@@ -25,7 +25,7 @@ fn spell(out: &mut [u8], at: usize, s: &[u8])
     }
 }
 
-// Puts the hex text of bytes at a place, and hands back the next place.
+/// Puts the hex text of bytes at a place, and hands back the next place.
 #[tactic(auto, using(crate::proofs::Digits::hex_length), unfolding(crate::specs::Place::put_in, crate::specs::Place::next_at))]
 pub fn put_hex(out: &mut [u8], at: usize, s: &[u8]) -> usize
     ensures { (result ≡ next_at out.old at (hex_of s.now (length s.now))) × (out.new ≡ put_in out.old at (hex_of s.now (length s.now))) }
@@ -67,7 +67,7 @@ fn unspell(out: &mut [u8], at: usize, s: &[u8], k: usize)
     }
 }
 
-// Puts the bytes that hex text says at a place, and hands back the next place; none where it is no hex text or does not fit.
+/// Puts the bytes that hex text says at a place, and hands back the next place; none where it is no hex text or does not fit.
 #[tactic(auto, unfolding(crate::specs::Hex::unhexes, crate::specs::Hex::unhexed, crate::specs::Hex::after_unhex))]
 pub fn put_unhex(out: &mut [u8], at: usize, s: &[u8]) -> Option<usize>
     ensures { (result ≡ unhexed out.old at s.now) × (out.new ≡ after_unhex out.old at s.now) }

@@ -1,4 +1,4 @@
-// Text in bytes: put into a buffer at a place, and read. Nothing is asked of a caller: what does not fit is not put.
+//! Text in bytes: put into a buffer at a place, and read. Nothing is asked of a caller: what does not fit is not put.
 #![tactic(auto)]
 
 mod hex;

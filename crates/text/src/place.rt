@@ -1,4 +1,4 @@
-// Bytes and numbers put at a place of a buffer.
+//! Bytes and numbers put at a place of a buffer.
 ghost use Rattle.std.specs.Prelude.{◌≡◌, ◌+◌, leb};
 ghost use Rattle.text.specs.Place.{put_in, next_at, NumberPut};
 
@@ -9,7 +9,7 @@ pub(crate) fn fits(size: usize, at: usize, k: usize) -> bool
     at <= size && k <= size - at
 }
 
-// Puts bytes at a place, and hands back the next place.
+/// Puts bytes at a place, and hands back the next place.
 #[tactic(auto, unfolding(crate::specs::Place::put_in, crate::specs::Place::next_at))]
 pub fn put(out: &mut [u8], at: usize, s: &[u8]) -> usize
     ensures { (result ≡ next_at out.old at s.now) × (out.new ≡ put_in out.old at s.now) }
@@ -22,7 +22,7 @@ pub fn put(out: &mut [u8], at: usize, s: &[u8]) -> usize
     at
 }
 
-// Puts the decimal digits of a number, as few as it takes.
+/// Puts the decimal digits of a number, as few as it takes.
 pub fn put_number(out: &mut [u8], at: usize, n: usize) -> usize
     ensures { NumberPut out.old at n result out.new }
 {

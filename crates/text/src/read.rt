@@ -1,4 +1,4 @@
-// A number, and the place of a byte, in text.
+//! A number, and the place of a byte, in text.
 ghost use Rattle.std.specs.Prelude.{◌≡◌, ◌<◌, ◌≤◌, length, get_or, eqb, Some};
 ghost use Rattle.basics.specs.Find.{lowest};
 ghost use Rattle.text.specs.Number.{step, number_in};
@@ -16,7 +16,7 @@ fn more(n: usize, x: u8, most: usize) -> Option<usize>
     if m <= most { Some(m) } else { None }
 }
 
-// The number that decimal digits say, one digit or more; none where it is over `most`.
+/// The number that decimal digits say, one digit or more; none where it is over `most`.
 pub fn number(s: &[u8], most: usize) -> Option<usize>
     ensures { result ≡ number_in most s.now }
 {
@@ -30,7 +30,7 @@ pub fn number(s: &[u8], most: usize) -> Option<usize>
     Some(n)
 }
 
-// The first place from `from` on where the byte x stands; the length where there is none.
+/// The first place from `from` on where the byte x stands; the length where there is none.
 pub fn find(s: &[u8], from: usize, x: u8) -> usize
     ensures { (result ≡ lowest (λ i. eqb (get_or s.now i 0) x) (length s.now) from) × (result ≤ length s.now) × (from ≤ length s.now → from ≤ result) }
 {
