@@ -4,6 +4,7 @@ use Rattle.std.specs.Prelude.{ℕ, ◌+◌, ◌*◌, Bool, List, replicate, ◌=
 use Rattle.basics.specs.Limits.{Limits}
 use Rattle.parts.specs.declared.plan.Counts.{Counts}
 use Rattle.parts.specs.declared.plan.Plan.{Plan}
+use Rattle.parts.specs.declared.lent.PlanParts.{PlanParts}
 
 -- number k of job j, in a plan's jobs
 abbrev pub number_in : List ℕ → ℕ → ℕ → ℕ
@@ -46,6 +47,10 @@ hi_at lim tables t = slice_index tables (lim.slots + t)
 -- a plan of its parts
 abbrev pub plan_with : Counts → List ℕ → List ℕ → List ℕ → Plan
 plan_with counts jobs edges tables = record { counts = counts; jobs = jobs; edges = edges; tables = tables }
+
+-- the plan whose parts are lent
+abbrev pub plan_of : PlanParts → Plan
+plan_of p = plan_with p.counts p.jobs.now p.edges.now p.tables.now
 
 -- all zero
 unfoldable pub no_plan : Limits → Plan

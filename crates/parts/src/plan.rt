@@ -1,8 +1,9 @@
 // A plan as a state holds it: document 01's counts, jobs, edges and tables.
 ghost use Rattle.std.specs.Prelude.{◌≡◌, ◌<◌};
 ghost use Rattle.basics.specs.Limits.{first_edition};
-ghost use Rattle.parts.specs.Plan.{number_in, no_plan};
+ghost use Rattle.parts.specs.Plan.{number_in, plan_of, no_plan};
 
+use crate::lent::PlanParts;
 use joblist::{MOST_EDGES, MOST_JOBS, MOST_SLOTS};
 
 // A job's numbers are a, d, CLO, CHI and the level, in the order of its bytes.
@@ -61,6 +62,18 @@ impl Plan {
             jobs: [0u16; JOBS],
             edges: [0u8; ENDS],
             tables: [0u8; ENTRIES],
+        }
+    }
+
+    // Its parts, lent.
+    pub fn parts(&self) -> PlanParts<'_>
+        ensures { plan_of result ≡ self.now }
+    {
+        PlanParts {
+            counts: self.counts,
+            jobs: &self.jobs,
+            edges: &self.edges,
+            tables: &self.tables,
         }
     }
 }

@@ -1,22 +1,15 @@
--- A job past one of its limits.
+-- Each job in turn.
 -- Assumes nothing.
-use Rattle.std.proofs.Common.{sym}
-use borrow.Author.Tests.{lt-leb}
-use Rattle.basics.proofs.Below.{all_stops, one_fails}
+use Rattle.std.proofs.Common.{rules, tests, refl, ◌∙◌, arith}
+use Rattle.std.proofs.lemmas.Iterator.{YieldsList-from_range}
+use Rattle.std.proofs.lemmas.Iterator.Search.{all_from_yields_List}
+use Rattle.basics.specs.Limits.{first_edition}
 use Rattle.parts.specs.Scan.{job_ok, jobs_ok}
+use Rattle.parts.proofs.Worst.{range_all}
 use Rattle.parts.proofs.scan.jobs_ok.Goals as goal
 
-pub returns-then-number-gt-HIGH : goal.returns-then-number-gt-HIGH
-unfolding jobs_ok job_ok
-returns-then-number-gt-HIGH c =
-    all_stops _ _ c.loop-j.j c.loop-j-test.true (sym (one_fails _ 0 (lt-leb _ _ (rw c.number.ensures at c.if-number-gt-HIGH.true))))
-
-pub returns-then-number-gt-BUDGET : goal.returns-then-number-gt-BUDGET
-unfolding jobs_ok job_ok
-returns-then-number-gt-BUDGET c =
-    all_stops _ _ c.loop-j.j c.loop-j-test.true (sym (one_fails _ 1 (lt-leb _ _ (rw c.number-in-loop-j.ensures at c.if-number-gt-BUDGET.true))))
-
-pub returns-then-number-gt-BUDGET-2 : goal.returns-then-number-gt-BUDGET-2
-unfolding jobs_ok job_ok
-returns-then-number-gt-BUDGET-2 c =
-    all_stops _ _ c.loop-j.j c.loop-j-test.true (sym (one_fails _ 2 (lt-leb _ _ (rw c.number-in-loop-j-2.ensures at c.if-number-gt-BUDGET-2.true))))
+pub returns : goal.returns
+unfolding jobs_ok
+returns c =
+    all_from_yields_List (job_ok first_edition c.args.jobs.now) _ _ _ c.all.ensures.ran (YieldsList-from_range 0 c.args.n c.args.n refl (omega arith)) (λ x b q k. search (rules, tests))
+    ∙ range_all (job_ok first_edition c.args.jobs.now) c.args.n

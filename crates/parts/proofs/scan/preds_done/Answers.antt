@@ -1,11 +1,15 @@
--- An edge from a job that is not done.
+-- Each edge in turn.
 -- Assumes nothing.
-use Rattle.basics.proofs.Below.{all_stops}
-use Rattle.parts.specs.Scan.{preds_done}
-use Rattle.parts.proofs.Marks.{mark_clear, edge_open}
+use Rattle.std.proofs.Common.{rules, tests, refl, ◌∙◌, arith}
+use Rattle.std.proofs.lemmas.Iterator.{YieldsList-from_range}
+use Rattle.std.proofs.lemmas.Iterator.Search.{all_from_yields_List}
+use Rattle.parts.specs.Scan.{ended_before, preds_done}
+use Rattle.parts.proofs.Worst.{range_all}
 use Rattle.parts.proofs.scan.preds_done.Goals as goal
 
-pub returns-then-done-p-eq0 : goal.returns-then-done-p-eq0
+pub returns : goal.returns
 unfolding preds_done
-returns-then-done-p-eq0 c =
-    all_stops _ _ c.loop-e.e c.loop-e-test.true (edge_open _ _ _ _ c.if-edges-e.true (mark_clear _ (rw c.wide-p.ensures.0 at c.if-done-p-eq0.true)))
+returns c =
+    let m = c.args.edges.m in
+    all_from_yields_List (ended_before c.args.edges.ends.now c.args.done.now c.args.j) _ _ _ c.all.ensures.ran (YieldsList-from_range 0 m m refl (omega arith)) (λ x b q k. search (rules, tests))
+    ∙ range_all (ended_before c.args.edges.ends.now c.args.done.now c.args.j) m
