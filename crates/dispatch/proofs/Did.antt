@@ -5,13 +5,14 @@ use mathlib.Core.Path.{◌≡◌, refl}
 use mathlib.Core.Bool.{Bool, true, false, not, ◌&&◌, ◌||◌}
 use lib.Dec.{eqb}
 use borrow.Author.Tests.{eqb-true, eqb-false}
+use Rattle.std.specs.Prelude.{Err}
+use Rattle.basics.specs.Chain.{◌⨾◌, need}
 use Rattle.basics.specs.Choice.{pick}
 use Rattle.basics.specs.Limits.{Limits}
 use Rattle.basics.specs.Marks.{idle}
 use Rattle.basics.proofs.Choice.{pick_both}
 use Rattle.machine.specs.Run.{Run}
 use Rattle.parts.specs.declared.plan.Plan.{Plan}
-use Rattle.machine.specs.declared.answer.Answer.TheVariants.{No}
 use Rattle.machine.specs.declared.answer.Why.{Why}
 use Rattle.machine.specs.declared.answer.Why.TheVariants.{BadState, Halted, SameTick, HalfAway, StaleTick, TicksLost, NoJob, PastHigh}
 use Rattle.machine.specs.declared.tick.Tick.{Tick}
@@ -20,7 +21,7 @@ use Rattle.parts.specs.Marks.{is_set}
 use Rattle.machine.specs.Numbers.{halts_of}
 use Rattle.parts.specs.Scan.{past_high}
 use Rattle.machine.specs.Tick.{tick_of}
-use Rattle.machine.specs.Machine.{Ran, says, need, ◌⨾◌, tick_test, halt_of, refused_run, sound_on, end_test, live_test, book_job, book_of, move_of, order_of, test_of, next_of, answer_of, step_on}
+use Rattle.machine.specs.Machine.{Ran, says, tick_test, halt_of, refused_run, sound_on, end_test, live_test, book_job, book_of, move_of, order_of, test_of, next_of, answer_of, step_on}
 
 -- what a run has, and has halted, it has after any refusal
 pub refused_has : (P : Run → Type 0) (w : Why) (r : Run) → P r → P (halt_of r) → P (refused_run w r)
@@ -53,11 +54,11 @@ module _ (lim : Limits) (p : Plan) (r : Run) (tick : ℕ) (e : Bool) where
     was_job : (r.head.ordered ≡ idle → ⊥) → Booked (book_job lim p.jobs r e)
 
   pub data Did : Ran → Type 0 where
-    refused : {w : Why} → Reason w → Did (says (No w) (refused_run w r))
+    refused : {w : Why} → Reason w → Did (says (Err w) (refused_run w r))
     taken : Live → tick_of r.head.last tick ≡ Next → {b : Run} → Booked b → Did (order_of lim p (move_of lim p.counts.len b tick))
 
   pub did : Did (step_on lim p r tick e)
-  unfolding step_on test_of live_test answer_of next_of end_test need ◌⨾◌ tick_test book_of pick
+  unfolding step_on test_of live_test answer_of next_of end_test tick_test book_of pick
   did = by_test (sound_run lim p r) refl (is_set r.head.halted) refl (tick_of r.head.last tick) refl (eqb r.head.ordered idle) refl e refl (past_high lim p.jobs r.units r.head.ordered e) refl
     where
       by_test : (a : Bool) → sound_run lim p r ≡ a → (h : Bool) → is_set r.head.halted ≡ h → (t : Tick) → tick_of r.head.last tick ≡ t

@@ -15,7 +15,7 @@ use Rattle.machine.specs.Run.{Run, with_head, with_slot}
 use Rattle.parts.specs.declared.plan.Plan.{Plan}
 use Rattle.dispatch.specs.declared.state.State.{State}
 use Rattle.dispatch.specs.declared.state.Stepped.{Stepped}
-use Rattle.machine.specs.declared.answer.Answer.{Answer}
+use Rattle.machine.specs.Numbers.{Answer}
 use Rattle.parts.specs.Scan.{bump, named_in, choice_in}
 use Rattle.machine.specs.Machine.{Ran, takes, halt_of, book_job, open_frame_of, move_of, order_of, step_on}
 use Rattle.dispatch.specs.State.{run_of, step_of}

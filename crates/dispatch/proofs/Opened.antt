@@ -9,6 +9,7 @@ use native.Mathlib.Nat.{add-zero}
 use native.Mathlib.Omega.{arith}
 use lib.ListN.{length, get_or}
 use lib.Dec.{leb, eqb}
+use Rattle.std.specs.Prelude.{Ok, Err}
 use borrow.Author.Tests.{eqb-true, le-leb, lt-ltb}
 use Rattle.basics.specs.Below.{all_of}
 use Rattle.basics.proofs.Tests.{or_right}
@@ -16,22 +17,20 @@ use Rattle.basics.specs.Bytes.{u16_at}
 use Rattle.basics.specs.Limits.{Limits, first_edition}
 use Rattle.basics.specs.Marks.{idle}
 use Rattle.joblist.specs.Fields.{head_bytes, jobs, edges, slots, job_at, edge_at, list_bytes, head_zero, ordinary, level, job_zero}
-use Rattle.joblist.specs.Answer.{each, counts_answer, zero_answer, body_answer, front_answer, list_answer}
-use Rattle.joblist.specs.declared.ListAnswer.TheVariants.{Good}
+use Rattle.basics.specs.Chain.{each}
+use Rattle.joblist.specs.Answer.{counts_answer, zero_answer, body_answer, front_answer, list_answer}
 use Rattle.joblist.specs.declared.Why.TheVariants.{Short}
-use Rattle.joblist.proofs.Chain.{both_good, need_good, row_good, each_good}
+use Rattle.basics.proofs.Chain.{both_good, need_good, row_good, each_good}
 use Rattle.joblist.specs.Accepted.{Accepted}
 use Rattle.joblist.proofs.Accepted.{accepted}
 use Rattle.basics.proofs.At.{get_d_any}
 use Rattle.verdict.specs.Demand.{Input, GoodTable}
 use Rattle.planfile.specs.Plan.{list_of, low_of, high_of}
 use Rattle.planfile.specs.Answer.{read_of}
-use Rattle.planfile.specs.declared.ReadAnswer.TheVariants.{Plan as IsPlan, No}
 use Rattle.planfile.specs.declared.ReadWhy.{ReadWhy}
 use Rattle.planfile.specs.declared.Shape.{Shape}
 use Rattle.planfile.proofs.Accepted.{read_yes, pair_yes}
 use Rattle.dispatch.specs.declared.state.State.{State}
-use Rattle.machine.specs.declared.answer.Answer.TheVariants.{No as Refused}
 use Rattle.machine.specs.declared.answer.Why.TheVariants.{BadState}
 use Rattle.parts.specs.Plan.{plan_with, no_plan, number_in, level_of}
 use Rattle.parts.specs.Scan.{sizes_ok, byte_ok, slot_ok, tables_ok, edges_ok, job_ok, jobs_ok}
@@ -53,7 +52,7 @@ unfolding fields_of
 fields_are s lo hi l n m j e t ql qn qm qj qe qt = rw (qj, qe, qt, ql, qn, qm)
 
 -- the room that reading them needs
-pub fields_fit : (s : List ℕ) (w : Shape) → read_of first_edition s ≡ IsPlan w
+pub fields_fit : (s : List ℕ) (w : Shape) → read_of first_edition s ≡ Ok w
     → (jobs (list_of s) ≤ first_edition.jobs) × (edges (list_of s) ≤ first_edition.edges) × (slots (list_of s) ≤ first_edition.slots) × (list_bytes (jobs (list_of s)) (edges (list_of s)) ≤ length (list_of s))
     × (slots (list_of s) ≤ length (low_of s)) × (slots (list_of s) ≤ length (high_of s))
 fields_fit s w h =
@@ -62,17 +61,17 @@ fields_fit s w h =
     (a.most_jobs, a.most_edges, a.most_slots, a.fits, omega (arith, i.low.size), omega (arith, i.high.size))
 
 module _ (lim : Limits) (s : List ℕ) (first : ℕ) (st : State) where
-  pub open_yes : (w : Shape) → read_of lim s ≡ IsPlan w → st ≡ fresh_of lim (fields_of lim (list_of s) (low_of s) (high_of s)) first
-      → record { answer = IsPlan w; state = st } ≡ open_of lim s first
+  pub open_yes : (w : Shape) → read_of lim s ≡ Ok w → st ≡ fresh_of lim (fields_of lim (list_of s) (low_of s) (high_of s)) first
+      → record { answer = Ok w; state = st } ≡ open_of lim s first
   unfolding open_of
   open_yes w h q = rw (h, q)
 
-  pub open_no : (w : ReadWhy) → read_of lim s ≡ No w → st ≡ no_state lim → record { answer = No w; state = st } ≡ open_of lim s first
+  pub open_no : (w : ReadWhy) → read_of lim s ≡ Err w → st ≡ no_state lim → record { answer = Err w; state = st } ≡ open_of lim s first
   unfolding open_of
   open_no w h q = rw (h, q)
 
 -- the zero byte of a job of an accepted list
-zero_byte : (lim : Limits) (s : List ℕ) → list_answer lim s ≡ Good → (j : ℕ) → j < jobs s → job_zero s j ≡ 0
+zero_byte : (lim : Limits) (s : List ℕ) → list_answer lim s ≡ Ok tt → (j : ℕ) → j < jobs s → job_zero s j ≡ 0
 unfolding list_answer front_answer body_answer
 zero_byte lim s h j l =
     let f = (row_good (leb head_bytes (length s)) Short _ h).1 in
@@ -166,19 +165,19 @@ module _ (lim : Limits) (s lo hi : List ℕ) (i : Input lim s lo hi) where
       )
 
 -- an accepted plan's state is sound
-pub opened_sound : (lim : Limits) (s : List ℕ) (first : ℕ) (w : Shape) → read_of lim s ≡ IsPlan w → state_ok lim (open_of lim s first).state ≡ true
+pub opened_sound : (lim : Limits) (s : List ℕ) (first : ℕ) (w : Shape) → read_of lim s ≡ Ok w → state_ok lim (open_of lim s first).state ≡ true
 unfolding open_of
 opened_sound lim s first w h =
     rw (h) (fresh_sound lim _ first (fields_sound lim _ _ _ (pair_yes _ _ _ _ (read_yes lim s w h).checked)))
 
 -- so no run after an open that succeeded ever answers 37
-pub opened_never_37 : (lim : Limits) (s : List ℕ) (first : ℕ) (w : Shape) → read_of lim s ≡ IsPlan w → (r : List Given)
+pub opened_never_37 : (lim : Limits) (s : List ℕ) (first : ℕ) (w : Shape) → read_of lim s ≡ Ok w → (r : List Given)
     → Each (λ a. answer_number a ≡ 37 → ⊥) (answers_of lim (open_of lim s first).state r)
 opened_never_37 lim s first w h r = never_37 lim _ (opened_sound lim s first w h) r
 
 -- and a refused open leaves a state on which every step says 37
-pub refused_says_37 : (lim : Limits) (s : List ℕ) (first : ℕ) (w : ReadWhy) → read_of lim s ≡ No w → (tick : ℕ) (e : Bool)
-    → step_of lim (open_of lim s first).state tick e ≡ record { answer = Refused BadState; state = no_state lim }
+pub refused_says_37 : (lim : Limits) (s : List ℕ) (first : ℕ) (w : ReadWhy) → read_of lim s ≡ Err w → (tick : ℕ) (e : Bool)
+    → step_of lim (open_of lim s first).state tick e ≡ record { answer = Err BadState; state = no_state lim }
 unfolding open_of sound_on plan_ok sizes_ok no_state no_plan all_of
 refused_says_37 lim s first w h tick e =
     rw (h) (ap (beside (no_plan lim)) (step_bad lim (no_plan lim) (run_of (no_state lim)) tick e refl))

@@ -6,16 +6,14 @@ use mathlib.Core.Bool.{Bool, true, false}
 use mathlib.Core.List.{List, [], ◌∷◌, map}
 use native.Mathlib.Omega.{arith}
 use lib.Dec.{ltb}
+use Rattle.std.specs.Prelude.{Result, Ok, Err}
 use Rattle.basics.specs.Choice.{pick}
 use Rattle.basics.specs.Limits.{Limits}
 use Rattle.machine.specs.Run.{Run, with_head, with_slot}
 use Rattle.parts.specs.declared.plan.Plan.{Plan}
 use Rattle.dispatch.specs.declared.state.State.{State}
-use Rattle.machine.specs.declared.answer.Answer.{Answer}
-use Rattle.machine.specs.declared.answer.Answer.TheVariants.{No}
-use Rattle.machine.specs.declared.step.Test.{Test}
-use Rattle.machine.specs.declared.step.Test.TheVariants.{Pass, Refuse}
-use Rattle.machine.specs.Numbers.{halts_of}
+use Rattle.machine.specs.declared.answer.Why.{Why}
+use Rattle.machine.specs.Numbers.{Answer, halts_of}
 use Rattle.machine.specs.Tick.{difference, tick_of}
 use Rattle.machine.specs.Machine.{Ran, says, takes, halt_of, run_ok, sound_on, live_test, book_job, book_of, open_frame_of, move_of, order_of, test_of, next_of, answer_of, step_on}
 use Rattle.dispatch.specs.State.{run_of, beside, step_of}
@@ -53,10 +51,10 @@ module _ (lim : Limits) (d : ℕ) where
   book_later jobs r e = pick_map (later_run d) _ _ _ refl refl
 
   module _ (p : Plan) (r : Run) (tick : ℕ) (e : Bool) where
-    answer_later : (t : Test) → answer_of lim p (later_run d r) ((tick + d) % 65536) e t ≡ later (answer_of lim p r tick e t)
+    answer_later : (t : Result Unit Why) → answer_of lim p (later_run d r) ((tick + d) % 65536) e t ≡ later (answer_of lim p r tick e t)
     unfolding answer_of next_of order_of
-    answer_later Pass = rw (book_later p.jobs r e, move_later p.counts.len (book_of lim p.jobs r e) tick)
-    answer_later (Refuse w) = ap (says (No w)) (pick_map (later_run d) (halts_of w) (halt_of r) r refl refl)
+    answer_later (Ok x) = rw (book_later p.jobs r e, move_later p.counts.len (book_of lim p.jobs r e) tick)
+    answer_later (Err w) = ap (says (Err w)) (pick_map (later_run d) (halts_of w) (halt_of r) r refl refl)
 
     -- a step
     pub step_later : r.head.last < 65536 → tick < 65536 → step_on lim p (later_run d r) ((tick + d) % 65536) e ≡ later (step_on lim p r tick e)

@@ -17,7 +17,6 @@ use Rattle.basics.proofs.Choice.{pick_both}
 use Rattle.machine.specs.Run.{Run, with_head, with_slot, fresh_head}
 use Rattle.parts.specs.declared.plan.Plan.{Plan}
 use Rattle.dispatch.specs.declared.state.State.{State}
-use Rattle.machine.specs.declared.answer.Answer.{Answer}
 use Rattle.machine.specs.declared.answer.Why.{Why}
 use Rattle.machine.specs.declared.answer.Why.TheVariants.{BadState, Halted, SameTick, HalfAway, StaleTick, TicksLost, NoJob, PastHigh}
 use Rattle.machine.specs.declared.tick.Tick.TheVariants.{Next}
@@ -25,7 +24,7 @@ use Rattle.parts.specs.Marks.{is_set}
 use Rattle.machine.specs.Tick.{difference, tick_of}
 use Rattle.machine.specs.Machine.{Ran, plan_ok, book_job, open_frame_of, move_of, fresh_run, order_of, step_on}
 use Rattle.dispatch.specs.State.{run_of, state_with, state_ok, fresh_of, step_of}
-use Rattle.machine.specs.Numbers.{number_of, answer_number}
+use Rattle.machine.specs.Numbers.{Answer, number_of, answer_number}
 use Rattle.dispatch.specs.Runs.{Given, Each, answers_by, state_by, answers_of, state_of, next_ticks, OnlyJobsRefused}
 use Rattle.machine.proofs.Facts.{state_facts}
 use Rattle.machine.proofs.Ticks.{covered_said}

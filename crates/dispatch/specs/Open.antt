@@ -1,13 +1,13 @@
 -- Opening: the bytes of a plan that the reader accepts, to a fresh state.
 -- Assumes nothing.
-use Rattle.std.specs.Prelude.{◌≡◌, ℕ, zero, suc, ◌+◌, ◌*◌, List, ◌++◌, get_or, set, replicate}
+use Rattle.std.specs.Prelude.{◌≡◌, ℕ, zero, suc, Result, Ok, Err, ◌+◌, ◌*◌, List, ◌++◌, get_or, set, replicate}
 use Rattle.basics.specs.Bytes.{u16_at}
 use Rattle.basics.specs.Limits.{Limits}
 use Rattle.joblist.specs.Fields.{head_bytes, jobs, edges, slots, job_at, arrival, deadline, ordinary, high, level}
 use Rattle.planfile.specs.Plan.{list_of, low_of, high_of}
 use Rattle.planfile.specs.Answer.{read_of}
-use Rattle.planfile.specs.declared.ReadAnswer.{ReadAnswer}
-use Rattle.planfile.specs.declared.ReadAnswer.TheVariants.{Plan as IsPlan, No}
+use Rattle.planfile.specs.declared.ReadWhy.{ReadWhy}
+use Rattle.planfile.specs.declared.Shape.{Shape}
 use Rattle.parts.specs.declared.plan.Plan.{Plan}
 use Rattle.parts.specs.Plan.{plan_with, arrival_of, deadline_of, clo_of, chi_of, level_of}
 use Rattle.dispatch.specs.declared.state.State.{State}
@@ -46,9 +46,9 @@ fields_of lim list lo hi =
     (jobs_of lim list (jobs list)) (edges_of lim list (jobs list) (edges list)) (tables_of lim lo hi (slots list))
 
 -- the state that opening leaves: fresh, or all zero where the plan is refused
-abbrev pub opened_of : Limits → ReadAnswer → List ℕ → ℕ → State
-opened_of lim (IsPlan shape) s first = fresh_of lim (fields_of lim (list_of s) (low_of s) (high_of s)) first
-opened_of lim (No w) s first = no_state lim
+abbrev pub opened_of : Limits → Result Shape ReadWhy → List ℕ → ℕ → State
+opened_of lim (Ok shape) s first = fresh_of lim (fields_of lim (list_of s) (low_of s) (high_of s)) first
+opened_of lim (Err w) s first = no_state lim
 
 unfoldable pub open_of : Limits → List ℕ → ℕ → Opened
 open_of lim s first = record { answer = read_of lim s; state = opened_of lim (read_of lim s) s first }

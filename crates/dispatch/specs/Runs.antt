@@ -1,16 +1,14 @@
 -- Runs: one step for each tick and mark of a list, of any length.
 -- Assumes nothing.
-use Rattle.std.specs.Prelude.{ℕ, ◌+◌, ◌*◌, ◌%◌, ◌^◌, ◌<◌, ◌≡◌, ◌⊎◌, Bool, List, [], ◌∷◌, length, get_or}
+use Rattle.std.specs.Prelude.{ℕ, ◌+◌, ◌*◌, ◌%◌, ◌^◌, ◌<◌, ◌≡◌, ◌⊎◌, Bool, Ok, Err, List, [], ◌∷◌, length, get_or}
 use Rattle.basics.specs.Limits.{Limits, first_edition}
 use Rattle.parts.specs.declared.plan.Plan.{Plan}
 use Rattle.machine.specs.declared.head.Head.{Head}
 use Rattle.dispatch.specs.declared.state.State.{State}
 use Rattle.dispatch.specs.declared.state.Stepped.{Stepped}
-use Rattle.machine.specs.declared.answer.Answer.{Answer}
-use Rattle.machine.specs.declared.answer.Answer.TheVariants.{Order, No}
 use Rattle.machine.specs.declared.answer.Why.{Why}
 use Rattle.machine.specs.Machine.{refused_run}
-use Rattle.machine.specs.Numbers.{number_of}
+use Rattle.machine.specs.Numbers.{Answer, number_of}
 use Rattle.machine.specs.Run.{Run, with_head, with_last}
 use Rattle.dispatch.specs.State.{run_of, state_with, step_of}
 
@@ -49,8 +47,8 @@ next_ticks f (e ∷ es) = record { tick = f % 65536; ended = e } ∷ next_ticks 
 -- orders up to the first refusal, and that is 34 or 35
 abbrev pub OnlyJobsRefused : List Answer → Type 0
 OnlyJobsRefused [] = Unit {0}
-OnlyJobsRefused (Order j ∷ l) = OnlyJobsRefused l
-OnlyJobsRefused (No w ∷ l) = (number_of w ≡ 34) ⊎ (number_of w ≡ 35)
+OnlyJobsRefused (Ok j ∷ l) = OnlyJobsRefused l
+OnlyJobsRefused (Err w ∷ l) = (number_of w ≡ 34) ⊎ (number_of w ≡ 35)
 
 -- what a refusal leaves: 31, 35 and 36 set the halted mark, the others change nothing
 abbrev pub refused_of : Why → State → State

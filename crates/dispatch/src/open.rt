@@ -8,11 +8,11 @@ ghost use Rattle.dispatch.specs.Open.{entries, jobs_of, edges_of, tables_of, fie
 use crate::state::State;
 use joblist::{HEAD_BYTES, JOB_BYTES, MOST_SLOTS};
 use parts::plan::{Counts, ENDS, ENTRIES, JOBS, NUMBERS, Plan};
-use planfile::ReadAnswer;
+use planfile::{ReadWhy, Shape};
 
 #[derive(Clone, Copy)]
 pub struct Opened {
-    pub answer: ReadAnswer,
+    pub answer: Result<Shape, ReadWhy>,
     pub state: State,
 }
 
@@ -30,29 +30,25 @@ fn numbers(list: &[u8], n: usize) -> [u16; JOBS]
 }
 
 // The ends of m edges after n jobs.
-#[tactic(auto, using(crate::proofs::Entries::entries_none, crate::proofs::Entries::entries_turn, crate::proofs::Entries::entries_done), unfolding(crate::specs::Open::edges_of))]
 fn ends(list: &[u8], n: usize, m: usize) -> [u8; ENDS]
     requires { (n ≤ first_edition.jobs) × (m ≤ first_edition.edges) × (list_bytes n m ≤ length list.now) }
     ensures { result ≡ edges_of first_edition list.now n m }
 {
     let mut out = [0u8; ENDS];
-    for i in 0..2 * m {
-        out[i] = list[HEAD_BYTES + JOB_BYTES * n + i];
-    }
+    let from = HEAD_BYTES + JOB_BYTES * n;
+    out[..2 * m].copy_from_slice(&list[from..][..2 * m]);
     out
 }
 
 // Both tables, of n slots each.
-#[tactic(auto, using(crate::proofs::Entries::both_none, crate::proofs::Entries::both_turn, crate::proofs::Entries::both_done), unfolding(crate::specs::Open::tables_of))]
 fn tables(lo: &[u8], hi: &[u8], n: usize) -> [u8; ENTRIES]
     requires { (n ≤ first_edition.slots) × (n ≤ length lo.now) × (n ≤ length hi.now) }
     ensures { result ≡ tables_of first_edition lo.now hi.now n }
 {
     let mut out = [0u8; ENTRIES];
-    for t in 0..n {
-        out[t] = lo[t];
-        out[MOST_SLOTS + t] = hi[t];
-    }
+    let (low, high) = out.split_at_mut(MOST_SLOTS);
+    low[..n].copy_from_slice(&lo[..n]);
+    high[..n].copy_from_slice(&hi[..n]);
     out
 }
 
@@ -66,18 +62,15 @@ fn fields(list: &[u8], lo: &[u8], hi: &[u8]) -> Plan
     let n = joblist::jobs_of(list);
     let m = joblist::edges_of(list);
     let len = joblist::slots_of(list);
-    let jobs = numbers(list, n);
-    let edges = ends(list, n, m);
-    let both = tables(lo, hi, len);
     Plan {
         counts: Counts {
             len: len as u16,
             n: n as u16,
             m: m as u16,
         },
-        jobs: jobs,
-        edges: edges,
-        tables: both,
+        jobs: numbers(list, n),
+        edges: ends(list, n, m),
+        tables: tables(lo, hi, len),
     }
 }
 
@@ -87,24 +80,14 @@ pub fn open(plan: &[u8], first: u16) -> Opened
     ensures { result ≡ open_of first_edition plan.now first }
 {
     let answer = planfile::read(plan);
-    match answer {
-        ReadAnswer::Plan(shape) => {
+    let state = match answer {
+        Ok(_) => {
             let list = planfile::list_of(plan);
             let low = planfile::low_of(plan);
             let high = planfile::high_of(plan);
-            let p = fields(list, low, high);
-            let state = State::fresh(p, first);
-            Opened {
-                answer: ReadAnswer::Plan(shape),
-                state: state,
-            }
+            State::fresh(fields(list, low, high), first)
         }
-        ReadAnswer::No(w) => {
-            let state = State::zero();
-            Opened {
-                answer: ReadAnswer::No(w),
-                state: state,
-            }
-        }
-    }
+        Err(_) => State::zero(),
+    };
+    Opened { answer, state }
 }

@@ -6,7 +6,8 @@ ghost use Rattle.dispatch.specs.State.{fresh_of, no_state, step_of};
 use joblist::MOST_JOBS;
 use machine::answer::Answer;
 use machine::head::Head;
-use machine::step;
+use machine::step::step;
+use parts::lent::Marks;
 use parts::plan::Plan;
 
 #[repr(C)]
@@ -31,10 +32,9 @@ impl State {
     pub fn fresh(plan: Plan, first: u16) -> Self
         ensures { result ≡ fresh_of first_edition plan first }
     {
-        let head = Head::fresh(plan.counts.len, first);
         State {
-            plan: plan,
-            head: head,
+            plan,
+            head: Head::fresh(plan.counts.len, first),
             units: [0u16; MOST_JOBS],
             done: [0u8; MOST_JOBS],
             cut: [0u8; MOST_JOBS],
@@ -46,11 +46,9 @@ impl State {
     pub fn zero() -> Self
         ensures { result ≡ no_state first_edition }
     {
-        let plan = Plan::zero();
-        let head = Head::zero();
         State {
-            plan: plan,
-            head: head,
+            plan: Plan::zero(),
+            head: Head::zero(),
             units: [0u16; MOST_JOBS],
             done: [0u8; MOST_JOBS],
             cut: [0u8; MOST_JOBS],
@@ -62,31 +60,15 @@ impl State {
     pub fn step(mut self, tick: u16, ended: bool) -> Stepped
         ensures { result ≡ step_of first_edition self tick ended }
     {
-        let counts = self.plan.counts;
-        let head = self.head;
-        let mut units = self.units;
-        let mut done = self.done;
-        let mut cut = self.cut;
-        let t = step::step(
-            counts,
-            &self.plan.jobs,
-            &self.plan.edges,
-            &self.plan.tables,
-            head,
-            &mut units,
-            &mut done,
-            &mut cut,
-            tick,
-            ended,
-        );
-        let answer = t.answer;
-        let next = t.head;
-        self.head = next;
-        self.units = units;
-        self.done = done;
-        self.cut = cut;
+        let mut marks = Marks {
+            units: &mut self.units,
+            done: &mut self.done,
+            cut: &mut self.cut,
+        };
+        let turned = step(self.plan.parts(), self.head, &mut marks, tick, ended);
+        self.head = turned.head;
         Stepped {
-            answer: answer,
+            answer: turned.answer,
             state: self,
         }
     }

@@ -1,6 +1,6 @@
 -- What a yes of row 37's test says, and what booking and moving on keep.
 -- Assumes nothing.
-use Rattle.std.proofs.Common.{◌≡◌, ℕ, ◌+◌, ◌*◌, ◌%◌, ◌^◌, ◌<◌, ◌≤◌, Bool, true, false, ◌||◌, ltb, List, sym, refl, ap, ◌∙◌, arith, ltb-true, lt-ltb, ne_eqb, leb-true}
+use Rattle.std.proofs.Common.{◌≡◌, ℕ, ◌+◌, ◌*◌, ◌<◌, ◌≤◌, Bool, true, false, ◌||◌, ltb, List, sym, refl, ap, ◌∙◌, arith, ltb-true, lt-ltb, ne_eqb, leb-true}
 use Rattle.basics.specs.Choice.{pick}
 use Rattle.basics.specs.Below.{all_of}
 use Rattle.basics.specs.Limits.{Limits}
@@ -14,18 +14,12 @@ use Rattle.parts.specs.Marks.{is_set}
 use Rattle.parts.specs.Plan.{from_of, lo_at, hi_at}
 use Rattle.machine.specs.Run.{Run, with_head, with_slot}
 use Rattle.parts.specs.Scan.{sizes_ok, byte_ok, slot_ok, tables_ok, edges_ok, units_ok, named_in}
-use Rattle.machine.specs.Tick.{difference}
 use Rattle.machine.specs.Machine.{plan_ok, run_ok, sound_on, book_job, book_of, open_frame_of, move_of}
 
 -- a byte that is no idle mark is a job's number
 pub job_below : (n x : ℕ) → byte_ok n x ≡ true → (x ≡ idle → ⊥) → x < n
 unfolding byte_ok
 job_below n x h ne = ltb-true _ _ (ap (λ b. b || ltb x n) (sym (ne_eqb _ _ ne)) ∙ h)
-
--- what the wrapping subtract ensures is the difference
-pub difference_is : (d t l : ℕ) → d < 65536 → t < 65536 → l < 65536 → (d + l) % 2 ^ 16 ≡ t → d ≡ difference t l
-unfolding difference
-difference_is d t l a b c e = omega arith
 
 module _ (lim : Limits) where
   -- the ranges give the room in the arrays
@@ -132,6 +126,10 @@ module _ (lim : Limits) where
       pub moved_room : m.head.slot < lim.slots
       moved_room = omega (arith, moved_low, known.plan.len_top)
 
-      pub order_room : (x : ℕ) → x ≡ named_in lim p.tables m.head.slot m.head.high
-          → ((x ≡ idle → ⊥) → x < lim.jobs) × ((p.counts.m ≤ lim.edges) × ((i : ℕ) → i < p.counts.m → from_of p.edges i < lim.jobs))
-      order_room x q = (named_room p known.plan _ _ moved_low x q, (known.plan.m_top, edge_room p known.plan))
+      pub order_room : (x : ℕ) → x ≡ named_in lim p.tables m.head.slot m.head.high → (x ≡ idle → ⊥) → x < lim.jobs
+      order_room x q = named_room p known.plan _ _ moved_low x q
+
+  -- and the edges of a sound plan
+  pub edges_room : (p : Plan) (h : Head) (units : List ℕ) → sound_on lim p h units ≡ true
+      → (p.counts.m ≤ lim.edges) × ((e : ℕ) → e < p.counts.m → from_of p.edges e < lim.jobs)
+  edges_room p h units v = let f = (state_facts p h units v).plan in (f.m_top, edge_room p f)

@@ -1,24 +1,22 @@
 -- Document 01, 'The dispatcher', with 36 of request 2026-02: a function of a plan, which never changes, a run, a tick and a mark, to an answer and a run.
 -- Assumes nothing.
-use Rattle.std.specs.Prelude.{ℕ, ◌+◌, Bool, not, ◌&&◌, ◌||◌, List, [], ◌∷◌, replicate, ◌==◌, nat_le, nat_lt, slice_index, slice_set}
+use Rattle.std.specs.Prelude.{ℕ, ◌+◌, Bool, not, ◌&&◌, ◌||◌, List, [], ◌∷◌, Result, Ok, Err, replicate, ◌==◌, nat_le, nat_lt, slice_index, slice_set}
+use Rattle.basics.specs.Chain.{◌⨾◌, need}
 use Rattle.basics.specs.Choice.{pick}
 use Rattle.basics.specs.Below.{all_of}
 use Rattle.basics.specs.Limits.{Limits}
 use Rattle.basics.specs.Marks.{idle}
+use Rattle.parts.specs.declared.lent.Marks.{Marks}
 use Rattle.parts.specs.declared.plan.Counts.{Counts}
 use Rattle.parts.specs.declared.plan.Plan.{Plan}
 use Rattle.machine.specs.declared.head.Head.{Head}
 use Rattle.machine.specs.declared.head.Turned.{Turned}
-use Rattle.machine.specs.declared.answer.Answer.{Answer}
-use Rattle.machine.specs.declared.answer.Answer.TheVariants.{Order, No}
 use Rattle.machine.specs.declared.answer.Why.{Why}
 use Rattle.machine.specs.declared.answer.Why.TheVariants.{BadState, Halted, SameTick, HalfAway, StaleTick, TicksLost, NoJob, PastHigh}
-use Rattle.machine.specs.declared.step.Test.{Test}
-use Rattle.machine.specs.declared.step.Test.TheVariants.{Pass, Refuse}
 use Rattle.machine.specs.declared.tick.Tick.{Tick}
 use Rattle.machine.specs.declared.tick.Tick.TheVariants.{Next, Same, Lost, Half, Stale}
 use Rattle.parts.specs.Marks.{is_set}
-use Rattle.machine.specs.Numbers.{halts_of}
+use Rattle.machine.specs.Numbers.{Answer, halts_of}
 use Rattle.parts.specs.Plan.{clo_of, is_high}
 use Rattle.machine.specs.Run.{Run, joined, with_head, with_slot, with_last, with_ordered, with_high, with_halted, fresh_head}
 use Rattle.parts.specs.Scan.{sizes_ok, byte_ok, tables_ok, edges_ok, jobs_ok, units_ok, named_in, bump, past_high, choice_in}
@@ -36,30 +34,24 @@ says a r = record { answer = a; run = r }
 abbrev pub ran : Turned → List ℕ → List ℕ → List ℕ → Ran
 ran t u d c = says t.answer (joined t.head u d c)
 
-infixr 20 ◌⨾◌
--- the first refusal wins
-unfoldable pub ◌⨾◌ : Test → Test → Test
-Pass ⨾ t = t
-Refuse w ⨾ t = Refuse w
-
--- a pass where the test holds, and otherwise the refusal
-unfoldable pub need : Bool → Why → Test
-need b w = pick b Pass (Refuse w)
+-- and with what is lent
+abbrev pub ran_with : Turned → Marks → Ran
+ran_with t m = ran t m.units.now m.done.now m.cut.now
 
 -- what the tick is refused for
-unfoldable pub tick_test : Tick → Test
-tick_test Next = Pass
-tick_test Same = Refuse SameTick
-tick_test Lost = Refuse TicksLost
-tick_test Half = Refuse HalfAway
-tick_test Stale = Refuse StaleTick
+unfoldable pub tick_test : Tick → Result Unit Why
+tick_test Next = Ok tt
+tick_test Same = Err SameTick
+tick_test Lost = Err TicksLost
+tick_test Half = Err HalfAway
+tick_test Stale = Err StaleTick
 
 -- what an order, and what a refusal leaves of a head: 31, 35 and 36 set the halted mark, the others change nothing
 abbrev pub ordered_head : Head → ℕ → Turned
-ordered_head h x = record { answer = Order x; head = with_ordered h x }
+ordered_head h x = record { answer = Ok x; head = with_ordered h x }
 
 abbrev pub refused_head : Why → Head → Turned
-refused_head w h = record { answer = No w; head = pick (halts_of w) (with_halted h 1) h }
+refused_head w h = record { answer = Err w; head = pick (halts_of w) (with_halted h 1) h }
 
 -- a run that takes a tick
 abbrev pub takes : Run → ℕ → Run
@@ -90,12 +82,12 @@ module _ (lim : Limits) where
   sound_on p h units = plan_ok p && run_ok p.counts h units
 
   -- 34: an end signalled with no job ordered; 35: a high job, not ended, at or past CHI
-  unfoldable pub end_test : List ℕ → ℕ → List ℕ → Bool → Test
+  unfoldable pub end_test : List ℕ → ℕ → List ℕ → Bool → Result Unit Why
   end_test jobs j units e =
       need (not (j == idle && e)) NoJob ⨾ need (j == idle || not (past_high lim jobs units j e)) (PastHigh j)
 
   -- 32, tick, 34, 35
-  unfoldable pub live_test : List ℕ → Head → List ℕ → ℕ → Bool → Test
+  unfoldable pub live_test : List ℕ → Head → List ℕ → ℕ → Bool → Result Unit Why
   live_test jobs h units tick e =
       need (not (is_set h.halted)) Halted ⨾ tick_test (tick_of h.last tick) ⨾ end_test jobs h.ordered units e
 
@@ -137,7 +129,7 @@ module _ (lim : Limits) where
 
   module _ (p : Plan) where
     -- steps go 37, 32, tick, 34, 35
-    unfoldable pub test_of : Run → ℕ → Bool → Test
+    unfoldable pub test_of : Run → ℕ → Bool → Result Unit Why
     test_of r tick e = need (sound_on p r.head r.units) BadState ⨾ live_test p.jobs r.head r.units tick e
 
     -- the order: the job that the mode's table names at the slot, if it may run, else idle
@@ -149,16 +141,16 @@ module _ (lim : Limits) where
         choice_in p.counts.m p.jobs p.edges (named_of r) r.head.slot r.head.high r.done r.cut
 
     unfoldable pub order_of : Run → Ran
-    order_of r = says (Order (choice_of r)) (with_head r (with_ordered r.head (choice_of r)))
+    order_of r = says (Ok (choice_of r)) (with_head r (with_ordered r.head (choice_of r)))
 
     -- the last slot is booked, the tick taken, and the next slot has its order
     unfoldable pub next_of : Run → ℕ → Bool → Ran
     next_of r tick e = order_of (move_of p.counts.len (book_of p.jobs r e) tick)
 
     -- the next slot, or a refusal
-    unfoldable pub answer_of : Run → ℕ → Bool → Test → Ran
-    answer_of r tick e Pass = next_of r tick e
-    answer_of r tick e (Refuse w) = says (No w) (refused_run w r)
+    unfoldable pub answer_of : Run → ℕ → Bool → Result Unit Why → Ran
+    answer_of r tick e (Ok x) = next_of r tick e
+    answer_of r tick e (Err w) = says (Err w) (refused_run w r)
 
     unfoldable pub step_on : Run → ℕ → Bool → Ran
     step_on r tick e = answer_of r tick e (test_of r tick e)

@@ -1,10 +1,9 @@
 -- The paper's number and place of each answer.
 -- Assumes nothing.
-use Rattle.std.specs.Prelude.{ℕ, Bool, true, false}
+use Rattle.std.specs.Prelude.{ℕ, Bool, true, false, Result}
+use Rattle.refusal.specs.Answer.{number_with, place_with}
 use Rattle.joblist.specs.declared.Place.{Place}
 use Rattle.joblist.specs.declared.Place.TheVariants.{Nowhere, AtJob}
-use Rattle.machine.specs.declared.answer.Answer.{Answer}
-use Rattle.machine.specs.declared.answer.Answer.TheVariants.{Order, No}
 use Rattle.machine.specs.declared.answer.Why.{Why}
 use Rattle.machine.specs.declared.answer.Why.TheVariants.{BadState, Halted, SameTick, HalfAway, StaleTick, TicksLost, NoJob, PastHigh}
 
@@ -41,12 +40,14 @@ halts_of TicksLost = true
 halts_of NoJob = false
 halts_of (PastHigh j) = true
 
+-- an order or a refusal
+abbrev pub Answer : Type 0
+Answer = Result ℕ Why
+
 -- the number of an answer: 0 for an order
 abbrev pub answer_number : Answer → ℕ
-answer_number (Order j) = 0
-answer_number (No w) = number_of w
+answer_number a = number_with number_of a
 
 -- the place of an answer
 abbrev pub answer_place : Answer → Place
-answer_place (Order j) = Nowhere
-answer_place (No w) = place_of w
+answer_place a = place_with Nowhere place_of a

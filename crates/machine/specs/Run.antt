@@ -2,6 +2,7 @@
 -- Assumes nothing.
 use Rattle.std.specs.Prelude.{ℕ, ◌-◌, List}
 use Rattle.basics.specs.Marks.{idle}
+use Rattle.parts.specs.declared.lent.Marks.{Marks}
 use Rattle.machine.specs.declared.head.Head.{Head}
 use Rattle.machine.specs.Tick.{difference}
 
@@ -37,6 +38,10 @@ pub record Run : Type 0 where
 
 abbrev pub joined : Head → List ℕ → List ℕ → List ℕ → Run
 joined h u d c = record { head = h; units = u; done = d; cut = c }
+
+-- the run of a head and of what is lent beside it
+abbrev pub lent_run : Head → Marks → Run
+lent_run h m = joined h m.units.now m.done.now m.cut.now
 
 -- the run with another head
 abbrev pub with_head : Run → Head → Run

@@ -15,22 +15,15 @@ pub enum Tick {
 const HALF: u16 = 32768;
 
 // The difference modulo 65536 alone decides.
-#[tactic(auto, using(crate::proofs::Facts::difference_is), unfolding(crate::specs::Tick::tick_of, crate::specs::Tick::case_of, basics::specs::Choice::pick))]
+#[tactic(auto, unfolding(crate::specs::Tick::tick_of, crate::specs::Tick::case_of, crate::specs::Tick::difference, basics::specs::Choice::pick))]
 pub fn said(last: u16, tick: u16) -> Tick
     ensures { result ≡ tick_of last tick }
 {
-    let d = std::num::wrapping_sub_u16(tick, last);
-    if d == 0 {
-        return Tick::Same;
+    match tick.wrapping_sub(last) {
+        0 => Tick::Same,
+        1 => Tick::Next,
+        2..HALF => Tick::Lost,
+        HALF => Tick::Half,
+        _ => Tick::Stale,
     }
-    if d == 1 {
-        return Tick::Next;
-    }
-    if d < HALF {
-        return Tick::Lost;
-    }
-    if d == HALF {
-        return Tick::Half;
-    }
-    Tick::Stale
 }
