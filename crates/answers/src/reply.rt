@@ -6,6 +6,7 @@ use machine::answer::Answer;
 use page::Page;
 use planfile::ReadAnswer;
 use poke::poked;
+use refusal::Refusal;
 use replytext::{put_build_place, put_bytes, put_place, put_spot, put_verdict};
 use requests::{Decoded, LogRequest, MOST_ROOM, Request};
 use text::part;
@@ -113,15 +114,15 @@ fn reply_open(mut d: Desk, plan: &[u8], first: usize) -> Desk {
 // The order, or the place of a refusal.
 fn put_order(page: Page, a: Answer) -> Page {
     match a {
-        Answer::Order(j) => page.put(b" order=").number(j as usize),
-        Answer::No(w) => put_place(page, machine::answer::place_of(w)),
+        Ok(j) => page.put(b" order=").number(j as usize),
+        Err(w) => put_place(page, w.place()),
     }
 }
 
 fn reply_step(mut d: Desk, tick: usize, ended: usize) -> Desk {
     let r = call::step(d.state, tick, ended);
     let a = r.answer;
-    d.page = put_order(d.page.number(machine::answer::answer_number(a)), a);
+    d.page = put_order(d.page.number(refusal::answer_number(a)), a);
     d.stated(r.state)
 }
 

@@ -23,6 +23,7 @@ use dispatch::state::State;
 use joblist::MOST_JOBS;
 use machine::head::Head;
 use machine::step;
+use parts::lent::{Marks, PlanParts};
 use parts::plan::{Counts, ENDS, ENTRIES, JOBS};
 
 mod answers;
@@ -162,18 +163,14 @@ pub fn step_parts<'a, 'b>(
 ) -> Moved
     ensures { moved result units.new done.new cut.new ≡ answered (step_on first_edition (plan_with counts jobs.now edges.now tables.now) (joined head units.old done.old cut.old) tick (is_set ended)) }
 {
-    let t = step::step(
+    let plan = PlanParts {
         counts,
         jobs,
         edges,
         tables,
-        head,
-        units,
-        done,
-        cut,
-        tick,
-        ended != 0,
-    );
+    };
+    let mut marks = Marks { units, done, cut };
+    let t = step::step(plan, head, &mut marks, tick, ended != 0);
     Moved {
         answer: t.answer.into(),
         head: t.head,

@@ -9,7 +9,7 @@ use dispatch::state::State;
 use field::Field;
 use joblist::{MOST_EDGES, MOST_JOBS, MOST_SLOTS};
 use parts::plan;
-use parts::plan::JOBS;
+use parts::plan::{ENDS, ENTRIES, JOBS};
 
 // Number k of job i, if there is such a job.
 fn set_number(jobs: &mut [u16; JOBS], i: usize, k: usize, word: u16)
@@ -20,16 +20,28 @@ fn set_number(jobs: &mut [u16; JOBS], i: usize, k: usize, word: u16)
     }
 }
 
-// Place i of a field, if there is such a place.
-fn set_word(field: &mut [u16], i: usize, word: u16) {
-    if let Some(place) = field.get_mut(i) {
-        *place = word;
+// End k of edge i, if there is such an edge.
+fn set_end(ends: &mut [u8; ENDS], i: usize, k: usize, byte: u8)
+    requires { k < 2 }
+{
+    if i < MOST_EDGES {
+        ends[2 * i + k] = byte;
     }
 }
 
-fn set_byte(field: &mut [u8], i: usize, byte: u8) {
+// Slot i of table k, if there is such a slot.
+fn set_slot(tables: &mut [u8; ENTRIES], i: usize, k: usize, byte: u8)
+    requires { k < 2 }
+{
+    if i < MOST_SLOTS {
+        tables[MOST_SLOTS * k + i] = byte;
+    }
+}
+
+// Place i of a field, if there is such a place.
+fn set<T: Copy>(field: &mut [T], i: usize, value: T) {
     if let Some(place) = field.get_mut(i) {
-        *place = byte;
+        *place = value;
     }
 }
 
@@ -46,34 +58,18 @@ pub fn poked(mut state: State, field: Field, i: usize, v: usize) -> State {
         Field::Ordered => state.head.ordered = byte,
         Field::High => state.head.high = byte,
         Field::Halted => state.head.halted = byte,
-        Field::Units => set_word(&mut state.units, i, word),
+        Field::Units => set(&mut state.units, i, word),
         Field::Arrival => set_number(&mut state.plan.jobs, i, plan::ARRIVAL, word),
         Field::Deadline => set_number(&mut state.plan.jobs, i, plan::DEADLINE, word),
         Field::Clo => set_number(&mut state.plan.jobs, i, plan::CLO, word),
         Field::Chi => set_number(&mut state.plan.jobs, i, plan::CHI, word),
         Field::Level => set_number(&mut state.plan.jobs, i, plan::LEVEL, word),
-        Field::Done => set_byte(&mut state.done, i, byte),
-        Field::Cut => set_byte(&mut state.cut, i, byte),
-        Field::From => {
-            if i < MOST_EDGES {
-                state.plan.edges[2 * i] = byte;
-            }
-        }
-        Field::To => {
-            if i < MOST_EDGES {
-                state.plan.edges[2 * i + 1] = byte;
-            }
-        }
-        Field::Lo => {
-            if i < MOST_SLOTS {
-                state.plan.tables[i] = byte;
-            }
-        }
-        Field::Hi => {
-            if i < MOST_SLOTS {
-                state.plan.tables[MOST_SLOTS + i] = byte;
-            }
-        }
+        Field::Done => set(&mut state.done, i, byte),
+        Field::Cut => set(&mut state.cut, i, byte),
+        Field::From => set_end(&mut state.plan.edges, i, 0, byte),
+        Field::To => set_end(&mut state.plan.edges, i, 1, byte),
+        Field::Lo => set_slot(&mut state.plan.tables, i, 0, byte),
+        Field::Hi => set_slot(&mut state.plan.tables, i, 1, byte),
     }
     state
 }

@@ -8,6 +8,7 @@ use jobtext::line::{NONE, bare, number, word};
 use jobtext::{Names, list};
 use machine::answer::{Answer, Why};
 use page::{Page, after, less, plus};
+use refusal::Refusal;
 use std::fs::File;
 use text::{find, part, same};
 
@@ -137,9 +138,9 @@ fn put_order(page: Page, names: Names, j: usize) -> Page {
 }
 
 fn put_refusal(page: Page, names: Names, w: Why) -> Page {
-    let number = machine::answer::number_of(w);
+    let number = w.number();
     let to = words::meaning(page.put(b"no: ").number(number).put(b", "), number);
-    let Place::AtJob(j) = machine::answer::place_of(w) else {
+    let Place::AtJob(j) = w.place() else {
         return to;
     };
     names.put(to.put(b": "), j)
@@ -148,11 +149,11 @@ fn put_refusal(page: Page, names: Names, w: Why) -> Page {
 // What a step answered.
 fn put_answer(page: Page, names: Names, a: Answer, slot: usize, high: u8) -> Page {
     match a {
-        Answer::Order(j) => {
+        Ok(j) => {
             let to = put_mode(page.put(b"slot ").number_right(slot, 4), high);
             put_order(to, names, wide(j))
         }
-        Answer::No(w) => put_refusal(page, names, w),
+        Err(w) => put_refusal(page, names, w),
     }
 }
 
