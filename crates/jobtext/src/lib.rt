@@ -8,7 +8,7 @@ mod names;
 mod reader;
 mod writer;
 
-pub use mistake::{Mistake, put_mistake};
+pub use mistake::{Expected, Mistake, Wrong, put_mistake};
 pub use names::Names;
 pub use reader::{Jobs, read};
 pub use writer::{put_edge, put_list};

@@ -120,7 +120,7 @@ impl Reader {
     }
 
     // One line, where it is a job's.
-    fn read_job(&mut self, number: usize, line: &[u8]) -> Result<(), Mistake> {
+    fn read_job(&mut self, number: usize, line: &[u8]) -> Result<(), Mistake<Wrong>> {
         if word(line, 0).is_empty() || is_edge(line) {
             return Ok(());
         }
@@ -151,7 +151,7 @@ impl Reader {
     }
 
     // One line, where it is an edge's.
-    fn read_edge(&mut self, number: usize, line: &[u8]) -> Result<(), Mistake> {
+    fn read_edge(&mut self, number: usize, line: &[u8]) -> Result<(), Mistake<Wrong>> {
         if !is_edge(line) {
             return Ok(());
         }
@@ -182,7 +182,7 @@ impl Reader {
 }
 
 // Reads a text: first the jobs, and then, with all names known, the edges.
-pub fn read(alloc: Global, text: &[u8]) -> Result<Jobs, Mistake> {
+pub fn read(alloc: Global, text: &[u8]) -> Result<Jobs, Mistake<Wrong>> {
     let mut reader = Reader::new(alloc);
     for (line, number) in text.split_inclusive(|x| *x == b'\n').zip(1..) {
         reader.read_job(number, bare(line))?;

@@ -5,6 +5,7 @@ mod mistake;
 mod reader;
 mod writer;
 
-pub use mistake::put_mistake;
+pub use jobtext::put_mistake;
+pub use mistake::{Mistake, Wrong};
 pub use reader::{Tables, read};
 pub use writer::put_pair;

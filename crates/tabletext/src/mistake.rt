@@ -1,70 +1,57 @@
-// A mistake in a text of tables: the file, the line, and what was expected.
-use crate::reader::{Tables, Wrong};
-use jobtext::line::NONE;
-use page::{Page, after};
-use text::{find, part};
+// A mistake in a text of tables: what is wrong, and what was expected there.
+use jobtext::Expected;
+use page::Page;
 
-// What is expected, a line for each mistake in the order of `row`. Some are followed by a number.
-const EXPECTED: [u8; 474] = *b"LO, HI, or slots and a job, as in 4-6 gate, and nothing else
-each table once: an earlier line begins this one
-LO or HI before the first slots
-the lower slot first, as in 4-6
-slots of the frame, 0 to
-each slot once: an earlier line of this table has slot
-the name of a job, or idle, after the slots
-the number of a job after `job`, 0 to
-LO and its slots, and the text has ended
-HI and its slots, and the text has ended
-every slot of the frame in this table: no line has slot
-";
+// What is wrong with a line, some with a number: the last slot or job that there is, or the slot that is meant.
+#[derive(Clone, Copy, Debug, PartialEq, Eq)]
+pub enum Wrong {
+    Neither,
+    Again,
+    Loose,
+    Backwards,
+    Past(usize),
+    Twice(usize),
+    Name,
+    Number(usize),
+    NoLow,
+    NoHigh,
+    LeftOut(usize),
+}
 
-fn row(w: Wrong) -> usize {
-    match w {
-        Wrong::Again => 1,
-        Wrong::Loose => 2,
-        Wrong::Backwards => 3,
-        Wrong::Past(_) => 4,
-        Wrong::Twice(_) => 5,
-        Wrong::Name => 6,
-        Wrong::Number(_) => 7,
-        Wrong::NoLow => 8,
-        Wrong::NoHigh => 9,
-        Wrong::LeftOut(_) => 10,
-        _ => 0,
+pub type Mistake = jobtext::Mistake<Wrong>;
+
+impl Wrong {
+    // What is expected; some of it is followed by the number.
+    fn expected(self) -> &'static [u8] {
+        match self {
+            Wrong::Neither => b"LO, HI, or slots and a job, as in 4-6 gate, and nothing else",
+            Wrong::Again => b"each table once: an earlier line begins this one",
+            Wrong::Loose => b"LO or HI before the first slots",
+            Wrong::Backwards => b"the lower slot first, as in 4-6",
+            Wrong::Past(_) => b"slots of the frame, 0 to",
+            Wrong::Twice(_) => b"each slot once: an earlier line of this table has slot",
+            Wrong::Name => b"the name of a job, or idle, after the slots",
+            Wrong::Number(_) => b"the number of a job after `job`, 0 to",
+            Wrong::NoLow => b"LO and its slots, and the text has ended",
+            Wrong::NoHigh => b"HI and its slots, and the text has ended",
+            Wrong::LeftOut(_) => b"every slot of the frame in this table: no line has slot",
+        }
+    }
+
+    fn number(self) -> Option<usize> {
+        match self {
+            Wrong::Past(n) | Wrong::Twice(n) | Wrong::Number(n) | Wrong::LeftOut(n) => Some(n),
+            _ => None,
+        }
     }
 }
 
-fn number(w: Wrong) -> usize {
-    match w {
-        Wrong::Past(n) => n,
-        Wrong::Twice(n) => n,
-        Wrong::Number(n) => n,
-        Wrong::LeftOut(n) => n,
-        _ => NONE,
+impl Expected for Wrong {
+    fn put_expected(&self, page: Page) -> Page {
+        let expected = page.put(self.expected());
+        match self.number() {
+            Some(n) => expected.blank(1).number(n),
+            None => expected,
+        }
     }
-}
-
-// Line k of a text.
-fn put_row(page: Page, text: &[u8], k: usize) -> Page {
-    let mut at = 0;
-    for i in 0..k {
-        at = after(find(text, at, b'\n'));
-    }
-    page.put(part(text, at, find(text, at, b'\n')))
-}
-
-// A number after a text, where there is one.
-fn put_number(page: Page, n: usize) -> Page {
-    if NONE <= n {
-        return page;
-    }
-    page.blank(1).number(n)
-}
-
-// Says where a text is mistaken, and what was expected there.
-pub fn put_mistake(page: Page, path: &[u8], tables: &Tables) -> Page {
-    let wrong = tables.wrong;
-    let at = page.put(path).put(b": line ").number(tables.line);
-    let expected = put_row(at.put(b": expected "), &EXPECTED, row(wrong));
-    put_number(expected, number(wrong)).end()
 }
