@@ -1,7 +1,7 @@
 -- A row as runs of jobs, which is how the code keeps it.
 -- Assumes nothing.
-use Rattle.std.specs.Prelude.{ℕ, zero, suc, ◌+◌, ◌-◌, ◌*◌, List, [], ◌∷◌, ◌++◌, ◌≡◌, length, get_or, replicate}
-use Rattle.basics.specs.Limits.{first_edition}
+use Rattle.std.specs.Prelude.{ℕ, zero, suc, ◌+◌, ◌-◌, List, [], ◌∷◌, ◌++◌, get_or, replicate}
+use Rattle.hitable.specs.declared.Row.{Row}
 
 -- k runs from run i on: each its job, and as many further units of it as `more` says
 unfoldable pub runs : List ℕ → List ℕ → ℕ → ℕ → List ℕ
@@ -12,6 +12,6 @@ runs job more i (suc k) = get_or job i 0 ∷ (replicate (get_or more i 0) (get_o
 unfoldable pub row_of : List ℕ → List ℕ → ℕ → ℕ → List ℕ
 row_of job more head tail = runs job more head (tail - head)
 
--- room for two runs a slot
-abbrev pub IsRoomy : List ℕ → List ℕ → Type 0
-IsRoomy job more = (length job ≡ 2 * first_edition.slots) × (length more ≡ 2 * first_edition.slots)
+-- the units of a row
+abbrev pub owed : Row → List ℕ
+owed r = row_of r.job r.more r.head r.tail

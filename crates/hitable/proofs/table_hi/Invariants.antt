@@ -3,11 +3,17 @@
 use Rattle.std.proofs.Common.{◌≡◌, ◌+◌, ◌≤◌}
 use Rattle.joblist.specs.Fields.{jobs}
 use Rattle.late.proofs.Units.{Counted}
-use Rattle.hitable.specs.TableHi.{hi_at}
-use Rattle.hitable.specs.Runs.{row_of, IsRoomy}
+use Rattle.hitable.specs.TableHi.{Hi, hi_at}
+use Rattle.hitable.specs.Runs.{owed}
 use Rattle.hitable.proofs.table_hi.Given as goal
 
 abbrev pub invariant-loop-t : goal.invariant-loop-t
-invariant-loop-t l = IsRoomy l.job l.more × (l.head ≤ l.tail) × (1024 ≤ l.head + l.t) × (l.tail ≤ 1024 + l.t)
-    × Counted (jobs l.s) l.placed l.out l.t
-    × (hi_at l.s l.lo l.thi l.initial.out l.t ≡ record { row = row_of l.job l.more l.head l.tail; table = l.out })
+invariant-loop-t l =
+    let s = l.list.bytes.now in
+    let now : Hi = record { row = owed l.row; table = l.out } in
+    record {
+      front : 1024 ≤ l.row.head + l.t;
+      back : l.row.tail ≤ 1024 + l.t;
+      count : Counted (jobs s) l.placed l.out l.t;
+      made : hi_at s l.lo l.thi l.initial.out l.t ≡ now;
+    }
