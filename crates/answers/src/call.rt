@@ -3,7 +3,7 @@ use dispatch::open::Opened;
 use dispatch::state::{State, Stepped};
 use joblist::Why;
 use merge::Built;
-use planfile::{ReadAnswer, Wrote};
+use planfile::{ReadWhy, Shape, WriteWhy};
 use verdict::Verdict;
 
 pub(crate) fn check_list(list: &[u8]) -> Result<(), Why> {
@@ -14,7 +14,7 @@ pub(crate) fn check(list: &[u8], lo: &[u8], hi: &[u8]) -> Verdict {
     verdict::check(list, lo, hi)
 }
 
-pub(crate) fn write(list: &[u8], lo: &[u8], hi: &[u8], out: &mut [u8]) -> Wrote {
+pub(crate) fn write(list: &[u8], lo: &[u8], hi: &[u8], out: &mut [u8]) -> Result<usize, WriteWhy> {
     planfile::write(list, lo, hi, out)
 }
 
@@ -22,7 +22,7 @@ pub(crate) fn build(list: &[u8], out: &mut [u8]) -> Built {
     merge::build(list, out)
 }
 
-pub(crate) fn read(plan: &[u8]) -> ReadAnswer {
+pub(crate) fn read(plan: &[u8]) -> Result<Shape, ReadWhy> {
     planfile::read(plan)
 }
 

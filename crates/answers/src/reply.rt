@@ -4,7 +4,6 @@ use crate::show::put_state;
 use dispatch::state::State;
 use machine::answer::Answer;
 use page::Page;
-use planfile::ReadAnswer;
 use poke::poked;
 use refusal::Refusal;
 use replytext::{put_build_place, put_bytes, put_place, put_spot, put_verdict};
@@ -91,8 +90,8 @@ fn reply_read(page: Page, plan: &[u8]) -> Page {
     let a = call::read(plan);
     let next = page.number(planfile::read_number(a));
     match a {
-        ReadAnswer::No(w) => put_spot(next, planfile::read_why_place(w)),
-        ReadAnswer::Plan(_) => put_plan(next, plan),
+        Err(w) => put_spot(next, planfile::read_why_place(w)),
+        Ok(_) => put_plan(next, plan),
     }
 }
 

@@ -1,20 +1,20 @@
 // The proved calls without their contracts, which no answer needs.
-use logwalk::Found;
-use planlog::Appended;
+use logwalk::{FindWhy, Span};
+use planlog::AppendWhy;
 
-pub(crate) fn append(store: &mut [u8], plan: &[u8]) -> Appended {
+pub(crate) fn append(store: &mut [u8], plan: &[u8]) -> Result<usize, AppendWhy> {
     planlog::append(store, plan)
 }
 
-pub(crate) fn append_cut(store: &mut [u8], plan: &[u8], most: usize) -> Appended {
+pub(crate) fn append_cut(store: &mut [u8], plan: &[u8], most: usize) -> Result<usize, AppendWhy> {
     planlog::append_cut(store, plan, most)
 }
 
-pub(crate) fn newest(store: &[u8]) -> Found {
+pub(crate) fn newest(store: &[u8]) -> Result<Span, FindWhy> {
     logwalk::newest(store)
 }
 
-pub(crate) fn previous(store: &[u8], end: usize) -> Found {
+pub(crate) fn previous(store: &[u8], end: usize) -> Result<Span, FindWhy> {
     logwalk::previous(store, end)
 }
 

@@ -3,9 +3,9 @@
 
 mod call;
 
-use logwalk::{Found, Span};
+use logwalk::Span;
 use page::{Page, plus};
-use planlog::Appended;
+use planlog::AppendWhy;
 use replytext::{put_bytes, put_spot};
 use requests::LogRequest;
 use text::part;
@@ -50,14 +50,14 @@ fn put_start(page: Page, start: usize) -> Page {
     page.put(b" at=").number(start)
 }
 
-fn put_appended(page: Page, a: Appended) -> Page {
+fn put_appended(page: Page, a: Result<usize, AppendWhy>) -> Page {
     let next = put_spot(
         page.number(planlog::append_number(a)),
         planlog::append_place(a),
     );
     match a {
-        Appended::At(start) => put_start(next, start),
-        Appended::No(_) => next,
+        Ok(start) => put_start(next, start),
+        Err(_) => next,
     }
 }
 
@@ -69,8 +69,8 @@ fn reply_newest(page: Page, store: &[u8]) -> Page {
     let f = call::newest(store);
     let next = page.number(logwalk::found_number(f));
     match f {
-        Found::Plan(p) => put_newest(next, p),
-        Found::No(_) => next,
+        Ok(p) => put_newest(next, p),
+        Err(_) => next,
     }
 }
 
@@ -79,7 +79,7 @@ fn put_earlier(start: Page, store: &[u8], place: usize) -> Page {
     let mut page = start;
     let mut end = place;
     for i in 0..store.len() {
-        let Found::Plan(p) = call::previous(store, end) else {
+        let Ok(p) = call::previous(store, end) else {
             return page;
         };
         page = page.put(b",").number(p.start);
@@ -92,8 +92,8 @@ fn reply_listed(page: Page, store: &[u8]) -> Page {
     let f = call::newest(store);
     let next = page.number(logwalk::found_number(f));
     match f {
-        Found::Plan(p) => put_earlier(put_start(next, p.start), store, p.start),
-        Found::No(_) => next,
+        Ok(p) => put_earlier(put_start(next, p.start), store, p.start),
+        Err(_) => next,
     }
 }
 

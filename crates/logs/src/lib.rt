@@ -5,18 +5,18 @@ mod writes;
 
 use files::{complain, fail, send, unwritten};
 use logtext::{end_of, plan_at};
-use logwalk::{FindWhy, Found, STORE_MOST};
+use logwalk::{FindWhy, STORE_MOST, Span};
 use page::Page;
-use planlog::Appended;
+use planlog::AppendWhy;
 use std::fs::File;
 use text::{Decimal, part, same};
 
 // The log's calls by themselves: what they promise is proved where they are made, and no page needs it.
-fn room_for(store: &[u8], plan: &[u8]) -> Appended {
+fn room_for(store: &[u8], plan: &[u8]) -> Result<usize, AppendWhy> {
     planlog::room_for(store, plan)
 }
 
-fn newest_of(store: &[u8]) -> Found {
+fn newest_of(store: &[u8]) -> Result<Span, FindWhy> {
     logwalk::newest(store)
 }
 
@@ -93,8 +93,8 @@ fn append_bytes(
     plan: &[u8],
 ) {
     match room_for(store, plan) {
-        Appended::At(at) => append_at(rt, file, path, store.len(), from, plan, at),
-        Appended::No(w) => send(logtext::put_refused(Page::output(rt), plan, w)),
+        Ok(at) => append_at(rt, file, path, store.len(), from, plan, at),
+        Err(w) => send(logtext::put_refused(Page::output(rt), plan, w)),
     }
 }
 
@@ -151,8 +151,8 @@ fn save(rt: &HostRuntime, to: &[u8], store: &[u8], plan: &[u8], at: usize) {
 
 fn newest_in(rt: &HostRuntime, store: &[u8], to: &[u8]) {
     match newest_of(store) {
-        Found::Plan(s) => save(rt, to, store, plan_at(store, s), s.start),
-        Found::No(w) => send(logtext::put_not_found(Page::output(rt), w)),
+        Ok(s) => save(rt, to, store, plan_at(store, s), s.start),
+        Err(w) => send(logtext::put_not_found(Page::output(rt), w)),
     }
 }
 
@@ -167,8 +167,8 @@ fn newest(rt: &HostRuntime, path: &[u8], to: &[u8]) {
 
 fn list_in(rt: &HostRuntime, path: &[u8], store: &[u8]) {
     match newest_of(store) {
-        Found::Plan(s) => send(logtext::put_list(Page::output(rt), path, store, end_of(s))),
-        Found::No(w) => complain(logtext::put_not_found(Page::errors(rt), w)),
+        Ok(s) => send(logtext::put_list(Page::output(rt), path, store, end_of(s))),
+        Err(w) => complain(logtext::put_not_found(Page::errors(rt), w)),
     }
 }
 

@@ -8,7 +8,7 @@ use std::io::Error;
 use std::os::unix::fs::FileExt;
 
 // The log's call by itself, without its contract.
-fn nth(size: usize, at: usize, plan: &[u8], k: usize) -> Write {
+fn nth(size: usize, at: usize, plan: &[u8], k: usize) -> Option<Write> {
     planlog::nth_write(size, at, plan, k)
 }
 
@@ -43,7 +43,9 @@ pub(crate) fn make(file: &File, size: usize, at: usize, plan: &[u8]) -> Result<(
     let all = plus(zeros, plan.len());
     for k in 0..all {
         is_ready(file, zeros, all, k)?;
-        put(file, nth(size, at, plan, k))?;
+        if let Some(w) = nth(size, at, plan, k) {
+            put(file, w)?;
+        }
     }
     is_kept(file)
 }

@@ -3,7 +3,7 @@
 
 use joblist::Place;
 use jobtext::{Names, list};
-use logwalk::{FindWhy, Found, STORE_MOST, Span};
+use logwalk::{FindWhy, STORE_MOST, Span};
 use page::{Page, less, plus};
 use planlog::AppendWhy;
 use plans::list_of;
@@ -70,8 +70,8 @@ pub fn put_own(page: Page, path: &[u8]) -> Page {
 // The plan that ends at a place; one of no bytes where none does.
 fn ending(store: &[u8], end: usize) -> Span {
     match logwalk::previous(store, end) {
-        Found::Plan(s) => s,
-        Found::No(_) => Span { start: 0, size: 0 },
+        Ok(s) => s,
+        Err(_) => Span { start: 0, size: 0 },
     }
 }
 

@@ -7,22 +7,21 @@ use mathlib.Core.List.{List, [], ◌∷◌, ◌++◌, append_assoc, append-nil, 
 use native.Mathlib.Omega.{arith}
 use borrow.Author.Tests.{le-leb, lt-leb}
 use lib.ListN.{length, get_or, take, drop, length-take, length-drop}
-use lib.Seq.{length-take-le, get_or-take, get_or-drop}
+use lib.Seq.{length-take-le, take-take, get_or-take, get_or-drop}
+use Rattle.std.proofs.lemmas.Slice.{between_is}
+use Rattle.std.specs.Prelude.{None, Ok, Err, is_ok}
+use Rattle.std.specs.Bool.{then_some}
 use Rattle.basics.specs.Bytes.{u32_at}
 use Rattle.basics.specs.Limits.{Limits}
-use Rattle.planfile.specs.Plan.{trailer_bytes, least_bytes}
+use Rattle.planfile.specs.Plan.{trailer_bytes}
 use Rattle.planfile.specs.Answer.{read_of}
-use Rattle.planfile.specs.declared.ReadAnswer.TheVariants.{Plan, No}
-use Rattle.planfile.specs.declared.ReadWhy.{ReadWhy}
-use Rattle.planfile.specs.declared.Shape.{Shape}
 use Rattle.joblist.proofs.Tested.{not_so}
 use Rattle.logwalk.specs.Walk.{accepts, size_at, plan_at, span_at, walk, last_in, last_end}
-use Rattle.logwalk.specs.Answer.{store_most, newest_in, newest_of, start_before, span_before, bytes_of, previous_of}
+use Rattle.logwalk.specs.Answer.{store_most, newest_in, newest_of, start_before, span_before, bytes_of, plan_before, previous_of}
 use Rattle.logwalk.specs.Back.{back_from, newest_first}
-use Rattle.logwalk.specs.declared.FindWhy.TheVariants.{Large as TooLarge, Empty}
-use Rattle.logwalk.specs.declared.Found.TheVariants.{Plan as Whole, No as NotFound}
+use Rattle.logwalk.specs.declared.FindWhy.TheVariants.{Empty}
 use Rattle.logwalk.specs.declared.Span.{Span}
-use Rattle.logwalk.proofs.Reader.{long, back, none, accept_plan, accept_no}
+use Rattle.logwalk.proofs.Reader.{long, back, none}
 use Rattle.logwalk.proofs.Here.{size_least, taken, plan_fits}
 use Rattle.logwalk.proofs.Plans.{Plans, stop, more, plans_rise, walk_plans, end_within}
 
@@ -56,20 +55,20 @@ module _ (lim : Limits) (s : List ℕ) (at end : ℕ) (rises : at ≤ end) (with
   unfolding start_before
   start = rw distance (omega (arith, part_size, long lim (take (end - at) (drop at s)) good))
 
-  pub ends : length s ≤ store_most → previous_of lim s end ≡ Whole (record { start = at; size = end - at })
-  unfolding previous_of
+  pub ends : length s ≤ store_most → previous_of lim s end ≡ Ok (record { start = at; size = end - at })
+  unfolding previous_of plan_before
   ends small = rw (le-leb _ _ small, le-leb _ _ within, start, good)
 
 -- so it is with a plan of the walk
-previous_here : (lim : Limits) (s : List ℕ) (at : ℕ) → plan_at lim s at ≡ true → length s ≤ store_most → previous_of lim s (at + size_at s at) ≡ Whole (span_at s at)
+previous_here : (lim : Limits) (s : List ℕ) (at : ℕ) → plan_at lim s at ≡ true → length s ≤ store_most → previous_of lim s (at + size_at s at) ≡ Ok (span_at s at)
 previous_here lim s at here small =
     let e : at + size_at s at - at ≡ size_at s at = omega arith in
     let g : accepts lim (take (at + size_at s at - at) (drop at s)) ≡ true = rw e (taken lim s at here) in
     rw e at (ends lim s at (at + size_at s at) (omega arith) (plan_fits lim s at here) g small)
 
 -- before the first byte there is none
-previous_none : (lim : Limits) (s : List ℕ) → length s ≤ store_most → previous_of lim s 0 ≡ NotFound Empty
-unfolding previous_of start_before
+previous_none : (lim : Limits) (s : List ℕ) → length s ≤ store_most → previous_of lim s 0 ≡ Err Empty
+unfolding previous_of plan_before start_before
 previous_none lim s small =
     let e : 0 - trailer_bytes - u32_at s (0 - trailer_bytes) ≡ 0 = omega arith in
     rw (le-leb _ _ small, le-leb 0 (length s) (omega arith), e, none lim [] (omega arith))
@@ -103,7 +102,7 @@ module _ (lim : Limits) (s : List ℕ) (small : length s ≤ store_most) where
 
 -- from the end of the last whole plan `previous` finds what `newest` finds
 module _ (lim : Limits) (s : List ℕ) (small : length s ≤ store_most) where
-  back_last : {a b : ℕ} {l : List Span} → Plans lim s a b l → (p : Span) → previous_of lim s a ≡ Whole p → previous_of lim s b ≡ Whole (last_in p l)
+  back_last : {a b : ℕ} {l : List Span} → Plans lim s a b l → (p : Span) → previous_of lim s a ≡ Ok p → previous_of lim s b ≡ Ok (last_in p l)
   unfolding last_in
   back_last stop p h = h
   back_last (more {a = a} w r) p h = back_last r (span_at s a) (previous_here lim s a w small)
@@ -116,48 +115,46 @@ module _ (lim : Limits) (s : List ℕ) (small : length s ≤ store_most) where
   unfolding newest_of
   newest_previous = back_newest (walk_plans lim s) ∙ rw (le-leb _ _ small)
 
--- what leads to each answer of `previous`
+-- what leads to each answer of the search before `end`
 module _ (lim : Limits) (s : List ℕ) (end : ℕ) where
-  pub previous_large : store_most < length s → NotFound TooLarge ≡ previous_of lim s end
-  unfolding previous_of
-  previous_large h = rw (lt-leb _ _ h)
+  pub before_past : length s < end → None ≡ plan_before lim s end
+  unfolding plan_before
+  before_past l = rw (lt-leb _ _ l)
 
-  pub previous_beyond : length s ≤ store_most → length s < end → NotFound Empty ≡ previous_of lim s end
-  unfolding previous_of
-  previous_beyond h l = rw (le-leb _ _ h, lt-leb _ _ l)
+  refused : end ≤ length s → accepts lim (bytes_of s (span_before s end)) ≡ false → None ≡ plan_before lim s end
+  unfolding plan_before
+  refused l e = rw (le-leb _ _ l, e)
 
-  refused : length s ≤ store_most → end ≤ length s → accepts lim (bytes_of s (span_before s end)) ≡ false → NotFound Empty ≡ previous_of lim s end
-  unfolding previous_of
-  refused h l e = rw (le-leb _ _ h, le-leb _ _ l, e)
+  pub before_short : end ≤ length s → end < trailer_bytes → None ≡ plan_before lim s end
+  before_short l e =
+      refused l (none lim (bytes_of s (span_before s end)) (omega (arith, length-take (end - start_before s end) (drop (start_before s end) s))))
 
-  pub previous_short : length s ≤ store_most → end ≤ length s → end < least_bytes → NotFound Empty ≡ previous_of lim s end
-  previous_short h l e =
-      refused h l (none lim (bytes_of s (span_before s end)) (omega (arith, length-take (end - start_before s end) (drop (start_before s end) s))))
+  -- with the bytes up to there, as the code takes them
+  module _ (bytes : List ℕ) (here : bytes ≡ take (end - 0) (drop 0 s)) (within : end ≤ length s) where
+    same_bytes : bytes ≡ take end s
+    same_bytes = let e : end - 0 ≡ end = omega arith in rw e at here
 
-  pub previous_far : length s ≤ store_most → end ≤ length s → least_bytes ≤ end → end - trailer_bytes < u32_at s (end - trailer_bytes) → NotFound Empty ≡ previous_of lim s end
-  unfolding start_before
-  previous_far h l n far = refused h l (sym (not_so _ go))
-    where
-      go : accepts lim (bytes_of s (span_before s end)) ≡ true → ⊥
-      go good =
-          let y : end - trailer_bytes - u32_at s (end - trailer_bytes) ≡ 0 = omega arith in
-          let z : end - 0 ≡ end = omega arith in
-          let g : accepts lim (take end s) ≡ true = rw (y, z) at good in
-          let m : length (take end s) ≡ end = length-take-le end s l in
-          let b = rw m at (back lim (take end s) g) in
-          let o : 0 + (end - trailer_bytes) ≡ end - trailer_bytes = omega arith in
-          let p = rw o at (u32_part s 0 end (end - trailer_bytes) (omega arith)) in
-          omega (arith, b, p)
+    same_distance : trailer_bytes ≤ end → u32_at bytes (end - trailer_bytes) ≡ u32_at s (end - trailer_bytes)
+    same_distance n =
+        let o : 0 + (end - trailer_bytes) ≡ end - trailer_bytes = omega arith in
+        rw same_bytes (rw o at (u32_part s 0 end (end - trailer_bytes) (omega arith)))
 
-  -- with the start that the code computes
-  module _ (start : ℕ) (here : start ≡ end - trailer_bytes - u32_at s (end - trailer_bytes)) where
-    same_start : start_before s end ≡ start
+    pub before_far : trailer_bytes ≤ end → end - trailer_bytes < u32_at bytes (end - trailer_bytes) → None ≡ plan_before lim s end
     unfolding start_before
-    same_start = sym here
+    before_far n far = refused within (sym (not_so _ go))
+      where
+        go : accepts lim (bytes_of s (span_before s end)) ≡ true → ⊥
+        go good =
+            let y : end - trailer_bytes - u32_at s (end - trailer_bytes) ≡ 0 = omega (arith, same_distance n) in
+            let z : end - 0 ≡ end = omega arith in
+            let g : accepts lim (take end s) ≡ true = rw (y, z) at good in
+            let m : length (take end s) ≡ end = length-take-le end s within in
+            let b = rw (m, ← same_bytes) at (back lim (take end s) g) in
+            omega (arith, b)
 
-    pub previous_no : (w : ReadWhy) → length s ≤ store_most → end ≤ length s → read_of lim (take (end - start) (drop start s)) ≡ No w → NotFound Empty ≡ previous_of lim s end
-    previous_no w h l e = refused h l (rw same_start (accept_no lim (take (end - start) (drop start s)) w e))
-
-    pub previous_found : (x : Shape) → length s ≤ store_most → end ≤ length s → read_of lim (take (end - start) (drop start s)) ≡ Plan x → Whole (record { start = start; size = end - start }) ≡ previous_of lim s end
-    unfolding previous_of
-    previous_found x h l e = rw (le-leb _ _ h, le-leb _ _ l, same_start, accept_plan lim (take (end - start) (drop start s)) x e)
+    pub before_read : (start : ℕ) → trailer_bytes ≤ end → start ≡ end - trailer_bytes - u32_at bytes (end - trailer_bytes) → then_some (is_ok (read_of lim (take (length bytes - start) (drop start bytes)))) (record { start = start; size = end - start }) ≡ plan_before lim s end
+    unfolding plan_before start_before accepts
+    before_read start n at =
+        let m : length bytes ≡ end = rw same_bytes (length-take-le end s within) in
+        let p : take (end - start) (drop start bytes) ≡ take (end - start) (drop start s) = rw (same_bytes, ← between_is s start end) (take-take (end - start) (end - start) (drop start s) (omega arith)) in
+        rw (le-leb _ _ within, ← same_distance n, ← at, m, p)

@@ -1,6 +1,7 @@
 -- A store with P1's plan, computed: the newest, and back from its end.
 -- Assumes nothing.
 use mathlib.Core.Path.{◌≡◌, refl}
+use Rattle.std.specs.Prelude.{Ok, Err}
 use Rattle.basics.specs.Below.{any_below}
 use Rattle.basics.specs.Bytes.{u16_at, u32_at}
 use Rattle.basics.specs.Find.{find}
@@ -16,17 +17,16 @@ use Rattle.verdict.specs.Answer.{check_of, odd_entry, tables_answer}
 use Rattle.planfile.specs.Plan.{part_of}
 use Rattle.planfile.specs.Answer.{parts_answer, read_of}
 use Rattle.logwalk.specs.Walk.{accepts, size_of, plan_at, plans_from, walk, last_in}
-use Rattle.logwalk.specs.Answer.{newest_of, start_before, previous_of}
+use Rattle.logwalk.specs.Answer.{newest_of, start_before, plan_before, previous_of}
 use Rattle.logwalk.specs.Cases.{no_plan, one_plan, two_plans}
 use Rattle.logwalk.specs.declared.FindWhy.TheVariants.{Empty}
-use Rattle.logwalk.specs.declared.Found.TheVariants.{Plan as Whole, No as NotFound}
 
 -- 51, the first plan and the second; back from its end, from its start, and from the front
-pub found : (newest_of first_edition no_plan ≡ NotFound Empty)
-    × (newest_of first_edition one_plan ≡ Whole (record { start = 0; size = 46 }))
-    × (newest_of first_edition two_plans ≡ Whole (record { start = 46; size = 46 }))
-    × (previous_of first_edition two_plans 92 ≡ Whole (record { start = 46; size = 46 }))
-    × (previous_of first_edition two_plans 46 ≡ Whole (record { start = 0; size = 46 }))
-    × (previous_of first_edition two_plans 0 ≡ NotFound Empty)
-unfolding newest_of previous_of start_before last_in walk plans_from plan_at accepts size_of part_of parts_answer read_of u32_at check_of tables_answer odd_entry list_answer front_answer counts_answer within body_answer fields_answer good_times good_budgets largest rising good_pair cyclic reach any_below turns in_turn edge_in u16_at first_fault search_from switches switch_at try_switch reaches_budget scan fault_at fault_of owed late_job step slot_with outran runs ready waits_for next_mode find needs_after one_more switch_to
+pub found : (newest_of first_edition no_plan ≡ Err Empty)
+    × (newest_of first_edition one_plan ≡ Ok (record { start = 0; size = 46 }))
+    × (newest_of first_edition two_plans ≡ Ok (record { start = 46; size = 46 }))
+    × (previous_of first_edition two_plans 92 ≡ Ok (record { start = 46; size = 46 }))
+    × (previous_of first_edition two_plans 46 ≡ Ok (record { start = 0; size = 46 }))
+    × (previous_of first_edition two_plans 0 ≡ Err Empty)
+unfolding newest_of previous_of plan_before start_before last_in walk plans_from plan_at accepts size_of part_of parts_answer read_of u32_at check_of tables_answer odd_entry list_answer front_answer counts_answer within body_answer fields_answer good_times good_budgets largest rising good_pair cyclic reach any_below turns in_turn edge_in u16_at first_fault search_from switches switch_at try_switch reaches_budget scan fault_at fault_of owed late_job step slot_with outran runs ready waits_for next_mode find needs_after one_more switch_to
 found = (refl, refl, refl, refl, refl, refl)

@@ -1,13 +1,13 @@
 // The plans of a store, back to back: the walk from the front, the newest, and the one before.
 #![tactic(auto)]
 
-ghost use Rattle.std.specs.Prelude.{◌≡◌, ◌≤◌, length};
+ghost use Rattle.std.specs.Prelude.{◌≡◌, ◌≤◌, length, IfSome};
 ghost use Rattle.basics.specs.Limits.{first_edition};
-ghost use Rattle.logwalk.specs.Walk.{whole_at, no_span, last_in, walk, end_of};
-ghost use Rattle.logwalk.specs.Answer.{newest_of, previous_of};
+ghost use Rattle.logwalk.specs.Walk.{whole_at, last_plan, walk, end_of};
+ghost use Rattle.logwalk.specs.Answer.{newest_of, plan_before, previous_of};
 ghost use Rattle.logwalk.specs.Numbers.{find_why_number, found_number};
 
-use planfile::{LEAST_BYTES, ReadAnswer, TRAILER_BYTES};
+use planfile::{Counted, TRAILER_BYTES};
 
 // No store is larger: 64 KiB.
 pub const STORE_MOST: usize = 65536;
@@ -26,12 +26,6 @@ pub enum FindWhy {
     Empty,
 }
 
-#[derive(Clone, Copy)]
-pub enum Found {
-    Plan(Span),
-    No(FindWhy),
-}
-
 // The paper's number where no plan was found.
 pub fn find_why_number(w: FindWhy) -> usize
     ensures { result ≡ find_why_number w }
@@ -43,95 +37,73 @@ pub fn find_why_number(w: FindWhy) -> usize
 }
 
 // A plan found: 0 for yes.
-pub fn found_number(f: Found) -> usize
+pub fn found_number(f: Result<Span, FindWhy>) -> usize
     ensures { result ≡ found_number f }
 {
     match f {
-        Found::Plan(_) => 0,
-        Found::No(w) => find_why_number(w),
+        Ok(_) => 0,
+        Err(w) => find_why_number(w),
     }
 }
 
-// The size of the accepted plan that begins at `at`; 0 where none does.
-#[tactic(auto, using(crate::proofs::Steps::whole_short, crate::proofs::Steps::whole_beyond, crate::proofs::Steps::whole_refused, crate::proofs::Steps::whole_plan), unfolding(crate::specs::Walk::size_of))]
-fn size_at(store: &[u8], at: usize) -> usize
-    requires { at ≤ length store.now }
+// The size of the accepted plan that begins at `at`, if one does.
+#[tactic(auto, using(crate::proofs::Steps::whole_past, crate::proofs::Steps::whole_short, crate::proofs::Steps::whole_beyond, crate::proofs::Steps::whole_read))]
+fn size_at(store: &[u8], at: usize) -> Option<usize>
     ensures { result ≡ whole_at first_edition store.now at }
 {
-    let n = store.len();
-    if n - at < LEAST_BYTES {
-        return 0;
-    }
-    let size = planfile::size_of(&store[at..n]);
-    if n - at < size {
-        return 0;
-    }
-    match planfile::read(&store[at..at + size]) {
-        ReadAnswer::Plan(_) => size,
-        ReadAnswer::No(_) => 0,
-    }
+    let rest = store.get(at..)?;
+    let size = Counted::of(rest)?.size();
+    planfile::read(rest.get(..size)?).is_ok().then_some(size)
 }
 
-// Inner: the last whole plan, by the walk from the front; no bytes at 0 where there is none.
+// Inner: the last whole plan, by the walk from the front.
 #[tactic(auto, using(crate::proofs::Steps::step_fits, crate::proofs::Steps::step_least, crate::proofs::Steps::step_first))]
-pub fn last_of(store: &[u8]) -> Span
-    ensures { (result ≡ last_in no_span (walk first_edition store.now)) × (end_of result ≤ length store.now) }
+pub fn last_of(store: &[u8]) -> Option<Span>
+    ensures last { result ≡ last_plan (walk first_edition store.now) }
+    ensures within { IfSome result (λ last. end_of last ≤ length store.now) }
 {
-    let mut start = 0;
+    let mut last = None;
     let mut end = 0;
-    let mut size = size_at(store, 0);
-    while size != 0 {
-        start = end;
-        end = end + size;
-        size = size_at(store, end);
+    while let Some(size) = size_at(store, end) {
+        last = Some(Span { start: end, size });
+        end += size;
     }
-    Span {
-        start: start,
-        size: end - start,
-    }
+    last
 }
 
 // The newest whole plan of a store: its place and size.
-#[tactic(auto, using(crate::proofs::Rows::newest_large, crate::proofs::Rows::newest_empty, crate::proofs::Rows::newest_found))]
-pub fn newest(store: &[u8]) -> Found
+#[tactic(auto, using(crate::proofs::Rows::newest_large, crate::proofs::Rows::newest_walk))]
+pub fn newest(store: &[u8]) -> Result<Span, FindWhy>
     ensures { result ≡ newest_of first_edition store.now }
 {
     if STORE_MOST < store.len() {
-        return Found::No(FindWhy::Large);
+        return Err(FindWhy::Large);
     }
-    let last = last_of(store);
-    if last.size == 0 {
-        return Found::No(FindWhy::Empty);
-    }
-    Found::Plan(last)
+    last_of(store).ok_or(FindWhy::Empty)
 }
 
-// The accepted plan that ends at `end`: its trailer's distance leads back to its start. From the newest plan's end, and then from each start, this lists the plans newest first.
-#[tactic(auto, using(crate::proofs::Back::previous_large, crate::proofs::Back::previous_beyond, crate::proofs::Back::previous_short, crate::proofs::Back::previous_far, crate::proofs::Back::previous_no, crate::proofs::Back::previous_found))]
-pub fn previous(store: &[u8], end: usize) -> Found
-    ensures { result ≡ previous_of first_edition store.now end }
+// The accepted plan that ends at `end`, if one does: its trailer's distance leads back to its start.
+#[tactic(auto, using(crate::proofs::Back::before_past, crate::proofs::Back::before_short, crate::proofs::Back::before_far, crate::proofs::Back::before_read))]
+fn plan_before(store: &[u8], end: usize) -> Option<Span>
+    ensures { result ≡ plan_before first_edition store.now end }
 {
-    let n = store.len();
-    if STORE_MOST < n {
-        return Found::No(FindWhy::Large);
-    }
-    if n < end {
-        return Found::No(FindWhy::Empty);
-    }
-    if end < LEAST_BYTES {
-        return Found::No(FindWhy::Empty);
-    }
-    let back = planfile::u32_at(store, end - TRAILER_BYTES);
-    if end - TRAILER_BYTES < back {
-        return Found::No(FindWhy::Empty);
-    }
-    let start = end - TRAILER_BYTES - back;
-    let p = Span {
-        start: start,
+    let before = store.get(..end)?;
+    let trailer = end.checked_sub(TRAILER_BYTES)?;
+    let start = trailer.checked_sub(planfile::u32_at(before, trailer))?;
+    let plan = Span {
+        start,
         size: end - start,
     };
-    match planfile::read(&store[start..end]) {
-        ReadAnswer::Plan(_) => Found::Plan(p),
-        ReadAnswer::No(_) => Found::No(FindWhy::Empty),
+    planfile::read(&before[start..]).is_ok().then_some(plan)
+}
+
+// The accepted plan that ends at `end`. From the newest plan's end, and then from each start, this lists the plans newest first.
+#[tactic(auto, unfolding(crate::specs::Answer::previous_of))]
+pub fn previous(store: &[u8], end: usize) -> Result<Span, FindWhy>
+    ensures { result ≡ previous_of first_edition store.now end }
+{
+    if STORE_MOST < store.len() {
+        return Err(FindWhy::Large);
     }
+    plan_before(store, end).ok_or(FindWhy::Empty)
 }

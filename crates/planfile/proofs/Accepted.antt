@@ -3,34 +3,28 @@
 use Prim.Native.Nat.{ℕ, ◌+◌, ◌-◌, ◌≤◌}
 use mathlib.Core.Path.{◌≡◌, refl}
 use mathlib.Core.List.{List}
-use mathlib.Core.Bool.{Bool, true, false, cond}
 use native.Mathlib.Omega.{arith}
 use borrow.Author.Tests.{eqb-true, leb-true}
 use lib.ListN.{length}
 use lib.Dec.{leb}
+use Rattle.std.specs.Prelude.{Result, Ok, Err}
 use Rattle.basics.specs.Bytes.{u32_at}
 use Rattle.basics.specs.Limits.{Limits}
+use Rattle.basics.proofs.Chain.{both_good, row_good}
 use Rattle.joblist.specs.Fields.{jobs, edges, slots, high}
 use Rattle.joblist.specs.Answer.{front_answer}
-use Rattle.joblist.specs.declared.ListAnswer.{ListAnswer}
-use Rattle.joblist.specs.declared.ListAnswer.TheVariants.{Good, No as NoList}
+use Rattle.joblist.specs.declared.Why.{Why}
 use Rattle.joblist.proofs.Accepted.{accepted, list_length}
 use Rattle.verdict.proofs.Judged.{yes_good}
 use Rattle.verdict.specs.Demand.{Input}
-use Rattle.verdict.specs.Answer.{of_list, check_of}
-use Rattle.verdict.specs.declared.Verdict.{Verdict}
-use Rattle.verdict.specs.declared.Verdict.TheVariants.{Yes, No as Objects}
+use Rattle.verdict.specs.Answer.{Verdict, of_list, check_of}
 use Rattle.planfile.specs.Plan.{mark, trailer_bytes, plan_of, plan_bytes, least_bytes, most_bytes, list_of, low_of, high_of}
-use Rattle.planfile.specs.Answer.{need as needed, reading, parts_answer, read_of, writing, write_of}
-use Rattle.planfile.specs.declared.ReadAnswer.{ReadAnswer}
-use Rattle.planfile.specs.declared.ReadAnswer.TheVariants.{Plan}
-use Rattle.planfile.specs.declared.ReadWhy.{ReadWhy}
+use Rattle.planfile.specs.Answer.{reading, parts_answer, read_of, writing, write_of}
 use Rattle.planfile.specs.declared.Shape.{Shape}
 use Rattle.planfile.specs.declared.WriteWhy.TheVariants.{Room}
-use Rattle.planfile.specs.declared.Wrote.TheVariants.{Bytes, No as Unwritten}
 
 -- a list and two tables that the check accepts
-module _ (lim : Limits) (s lo hi : List ℕ) (yes : check_of lim s lo hi ≡ Yes) where
+module _ (lim : Limits) (s lo hi : List ℕ) (yes : check_of lim s lo hi ≡ Ok tt) where
   pub pair_yes : Input lim s lo hi
   pair_yes = (yes_good lim s lo hi yes).0
 
@@ -41,51 +35,46 @@ module _ (lim : Limits) (s lo hi : List ℕ) (yes : check_of lim s lo hi ≡ Yes
       let a = accepted lim s p.list in
       omega (arith, list_length lim s p.list, p.low.size, p.high.size, a.most_jobs, a.most_edges, a.most_slots)
 
-said : (v : Verdict) (size room k : ℕ) → writing v size room ≡ Bytes k → (v ≡ Yes) × (size ≡ k) × (size ≤ room)
-said (Objects w) size room k h = let z : ◌≡◌ {A = ℕ} 0 1 = cc in absurd (omega arith)
-said Yes size room k h = go (leb size room) refl h
-  where
-    go : (b : Bool) → leb size room ≡ b → cond b (Bytes size) (Unwritten Room) ≡ Bytes k → (◌≡◌ {A = Verdict} Yes Yes) × (size ≡ k) × (size ≤ room)
-    go true e g = (refl, (let z : size ≡ k = cc in z), leb-true _ _ e)
-    go false e g = let z : ◌≡◌ {A = ℕ} 0 1 = cc in absurd (omega arith)
+written_yes : (v : Verdict) → writing v ≡ Ok tt → v ≡ Ok tt
+written_yes (Ok x) h = refl
+written_yes (Err w) h = cc
 
 -- a write that says a length: the check says yes, the length is the plan's, and there is room
-pub wrote_yes : (lim : Limits) (list lo hi : List ℕ) (room size : ℕ) → write_of lim list lo hi room ≡ Bytes size → (check_of lim list lo hi ≡ Yes) × (length (plan_of list lo hi) ≡ size) × (length (plan_of list lo hi) ≤ room)
+pub wrote_yes : (lim : Limits) (list lo hi : List ℕ) (room size : ℕ) → write_of lim list lo hi room ≡ Ok size → (check_of lim list lo hi ≡ Ok tt) × (length (plan_of list lo hi) ≡ size) × (length (plan_of list lo hi) ≤ room)
 unfolding write_of
-wrote_yes lim list lo hi room size h = said (check_of lim list lo hi) (length (plan_of list lo hi)) room size h
+wrote_yes lim list lo hi room size h =
+    let v = both_good (writing (check_of lim list lo hi)) _ h in
+    let r = row_good (leb (length (plan_of list lo hi)) room) Room (Ok (length (plan_of list lo hi))) v.1 in
+    (written_yes _ v.0, (let z : length (plan_of list lo hi) ≡ size = cc in z), leb-true _ _ r.0)
 
 -- a plan that the reader accepts
 pub record Read (lim : Limits) (s : List ℕ) : Type 0 where
   pub long : least_bytes ≤ length s
   pub marked : u32_at s (length s - 4) ≡ u32_at mark 0
   pub back : u32_at s (length s - trailer_bytes) ≡ length s - trailer_bytes
-  pub front : front_answer lim (high s) s (plan_bytes (jobs s) (edges s) (slots s)) ≡ Good
-  pub checked : check_of lim (list_of s) (low_of s) (high_of s) ≡ Yes
+  pub front : front_answer lim (high s) s (plan_bytes (jobs s) (edges s) (slots s)) ≡ Ok tt
+  pub checked : check_of lim (list_of s) (low_of s) (high_of s) ≡ Ok tt
 
-need_plan : (b : Bool) (w : ReadWhy) (r : ReadAnswer) (x : Shape) → needed b w r ≡ Plan x → (b ≡ true) × (r ≡ Plan x)
-need_plan true w r x h = (refl, h)
-need_plan false w r x h = let z : ◌≡◌ {A = ℕ} 0 1 = cc in absurd (omega arith)
+read_list : (a : Result Unit Why) → reading (of_list a) ≡ Ok tt → a ≡ Ok tt
+read_list (Ok x) h = refl
+read_list (Err w) h = cc
 
-list_plan : (a : ListAnswer) (r : ReadAnswer) (x : Shape) → reading (of_list a) r ≡ Plan x → (a ≡ Good) × (r ≡ Plan x)
-list_plan Good r x h = (refl, h)
-list_plan (NoList w) r x h = let z : ◌≡◌ {A = ℕ} 0 1 = cc in absurd (omega arith)
+read_check : (v : Verdict) → reading v ≡ Ok tt → v ≡ Ok tt
+read_check (Ok x) h = refl
+read_check (Err w) h = cc
 
-check_plan : (v : Verdict) (r : ReadAnswer) (x : Shape) → reading v r ≡ Plan x → (v ≡ Yes) × (r ≡ Plan x)
-check_plan Yes r x h = (refl, h)
-check_plan (Objects w) r x h = let z : ◌≡◌ {A = ℕ} 0 1 = cc in absurd (omega arith)
-
-pub read_yes : (lim : Limits) (s : List ℕ) (x : Shape) → read_of lim s ≡ Plan x → Read lim s
+pub read_yes : (lim : Limits) (s : List ℕ) (x : Shape) → read_of lim s ≡ Ok x → Read lim s
 unfolding read_of parts_answer
 read_yes lim s x h =
-    let a = need_plan _ _ _ _ h in
-    let b = need_plan _ _ _ _ a.1 in
-    let c = need_plan _ _ _ _ b.1 in
-    let f = list_plan _ _ _ c.1 in
-    let v = check_plan _ _ _ f.1 in
+    let a = row_good _ _ _ h in
+    let b = row_good _ _ _ a.1 in
+    let c = row_good _ _ _ b.1 in
+    let f = both_good _ _ c.1 in
+    let v = both_good _ _ f.1 in
     record {
       long = leb-true _ _ a.0;
       marked = eqb-true _ _ b.0;
       back = eqb-true _ _ c.0;
-      front = f.0;
-      checked = v.0;
+      front = read_list _ f.0;
+      checked = read_check _ v.0;
     }

@@ -8,14 +8,15 @@ use native.Mathlib.Omega.{arith}
 use borrow.Author.Tests.{eq-eqb}
 use lib.ListN.{length, drop, length-drop, take-append-drop}
 use lib.Seq.{length-take-le}
+use Rattle.std.specs.Prelude.{Ok}
+use Rattle.basics.specs.Chain.{◌⨾◌}
 use Rattle.basics.specs.Limits.{Limits}
 use Rattle.joblist.specs.Fields.{head_bytes, jobs, edges, slots, high}
 use Rattle.joblist.specs.Answer.{front_answer, list_answer}
-use Rattle.joblist.specs.declared.ListAnswer.TheVariants.{Good}
 use Rattle.joblist.proofs.Accepted.{front_counts}
 use Rattle.joblist.proofs.Front.{u16_front, list_front}
 use Rattle.frame.specs.Search.{Finding, nothing, found, first_fault}
-use Rattle.verdict.specs.Answer.{◌⨾◌, odd_entry, entry_answer, search_answer, tables_answer, check_of}
+use Rattle.verdict.specs.Answer.{odd_entry, entry_answer, search_answer, tables_answer, check_of}
 use Rattle.verdict.specs.FrameOf.{frame_of}
 use Rattle.planfile.specs.Round.{OfTables, fine, entry, fault}
 use Rattle.planfile.specs.Plan.{trailer_bytes, plan_bytes, least_bytes, low_at, list_of, low_of, high_of}
@@ -44,7 +45,7 @@ left none none (found f) = fault _
 left none none nothing = fine
 
 -- a plan whose list and length are good: its parts, before the check looks at the tables
-module _ (lim : Limits) (s : List ℕ) (long : least_bytes ≤ length s) (good : front_answer lim (high s) s (plan_bytes (jobs s) (edges s) (slots s)) ≡ Good) where
+module _ (lim : Limits) (s : List ℕ) (long : least_bytes ≤ length s) (good : front_answer lim (high s) s (plan_bytes (jobs s) (edges s) (slots s)) ≡ Ok tt) where
   pub front_length : length s ≡ plan_bytes (jobs s) (edges s) (slots s)
   front_length = front_counts lim s _ _ good
 
@@ -67,7 +68,7 @@ module _ (lim : Limits) (s : List ℕ) (long : least_bytes ≤ length s) (good :
   pub list_slots : slots (list_of s) ≡ slots s
   list_slots = sym (rw split at (front_slots (list_of s) (drop (low_at s) s) (omega (arith, list_size))))
 
-  pub good_list : list_answer lim (list_of s) ≡ Good
+  pub good_list : list_answer lim (list_of s) ≡ Ok tt
   good_list =
       let h : length (drop (low_at s) s) ≡ 2 * slots (list_of s) + trailer_bytes = rw (length-drop (low_at s) s, list_slots) (omega (arith, front_length)) in
       sym (rw split at (front_list (list_of s) (drop (low_at s) s) (omega (arith, list_size)) lim h)) ∙ good

@@ -1,24 +1,22 @@
 -- What is written is read again: the plan of an accepted list and its tables.
 -- Assumes nothing.
 use Prim.Native.Nat.{ℕ, ◌+◌, ◌*◌, ◌-◌, ◌≤◌, ◌<◌, ◌^◌}
-use mathlib.Core.Path.{◌≡◌, refl, sym, ap, ◌∙◌}
+use mathlib.Core.Path.{◌≡◌, sym, ap, ◌∙◌}
 use mathlib.Core.List.{List, ◌++◌, append_assoc}
 use native.Mathlib.Omega.{arith}
 use lib.ListN.{length, length-append}
 use lib.Seq.{take_at, drop_at, drop-append-add}
+use Rattle.std.specs.Prelude.{Ok}
 use Rattle.basics.specs.Bytes.{u32_at}
 use Rattle.basics.specs.Limits.{Limits}
 use Rattle.joblist.specs.Fields.{jobs, edges, slots, high}
 use Rattle.joblist.specs.Answer.{front_answer}
-use Rattle.joblist.specs.declared.ListAnswer.TheVariants.{Good}
 use Rattle.joblist.proofs.Accepted.{list_length}
 use Rattle.verdict.specs.Answer.{check_of}
 use Rattle.verdict.specs.Demand.{Input}
-use Rattle.verdict.specs.declared.Verdict.TheVariants.{Yes}
 use Rattle.planfile.specs.Plan.{mark, trailer, trailer_bytes, plan_of, plan_bytes, least_bytes, most_bytes, low_at, list_of, low_of, high_of}
 use Rattle.planfile.specs.Answer.{shape_of}
 use Rattle.planfile.specs.Round.{ReadsBack}
-use Rattle.planfile.specs.declared.ReadAnswer.TheVariants.{Plan}
 use Rattle.planfile.proofs.Parts.{part_some}
 use Rattle.planfile.proofs.Rows.{parts_plan, read_rest}
 use Rattle.planfile.proofs.Written.{plan_length}
@@ -27,7 +25,7 @@ use Rattle.planfile.proofs.Trailer.{ends_marked, ends_back}
 use Rattle.planfile.proofs.Front.{front_jobs, front_edges, front_slots, front_list}
 
 -- the plan of a list and two tables that the check accepts
-module _ (lim : Limits) (small : most_bytes lim < 2 ^ 32) (list lo hi : List ℕ) (yes : check_of lim list lo hi ≡ Yes) where
+module _ (lim : Limits) (small : most_bytes lim < 2 ^ 32) (list lo hi : List ℕ) (yes : check_of lim list lo hi ≡ Ok tt) where
   abbrev rest : List ℕ
   rest = lo ++ (hi ++ trailer (length list + length lo + length hi))
 
@@ -84,17 +82,17 @@ module _ (lim : Limits) (small : most_bytes lim < 2 ^ 32) (list lo hi : List ℕ
       distance (omega (arith, pair_fits lim list lo hi yes))
       ∙ omega (arith, plan_length list lo hi)
 
-  front : front_answer lim (high (plan_of list lo hi)) (plan_of list lo hi) (plan_bytes (jobs (plan_of list lo hi)) (edges (plan_of list lo hi)) (slots (plan_of list lo hi))) ≡ Good
+  front : front_answer lim (high (plan_of list lo hi)) (plan_of list lo hi) (plan_bytes (jobs (plan_of list lo hi)) (edges (plan_of list lo hi)) (slots (plan_of list lo hi))) ≡ Ok tt
   front = rw plan_split (front_list list rest (omega (arith, list_bytes_lem)) lim rest_bytes ∙ pair.list)
 
-  checked : check_of lim (list_of (plan_of list lo hi)) (low_of (plan_of list lo hi)) (high_of (plan_of list lo hi)) ≡ Yes
+  checked : check_of lim (list_of (plan_of list lo hi)) (low_of (plan_of list lo hi)) (high_of (plan_of list lo hi)) ≡ Ok tt
   checked = rw (plan_split, whole_list, whole_low, whole_high) yes
 
   pub plan_reads : ReadsBack lim (plan_of list lo hi) list lo hi
   plan_reads = record {
     answer = sym (read_rest lim (plan_of list lo hi) (rw plan_split long) marked back)
-        ∙ sym (parts_plan lim (plan_of list lo hi) _ refl front refl refl refl checked)
-        ∙ rw plan_split (ap Plan same_counts);
+        ∙ sym (parts_plan lim (plan_of list lo hi) front checked)
+        ∙ rw plan_split (ap Ok same_counts);
     list_part = rw plan_split whole_list;
     low_part = rw plan_split whole_low;
     high_part = rw plan_split whole_high;

@@ -6,13 +6,13 @@ use mathlib.Core.List.{List, ◌++◌}
 use native.Mathlib.Omega.{arith}
 use lib.ListN.{length, take, take-append-drop}
 use lib.Seq.{take-add}
+use Rattle.std.specs.Prelude.{Ok}
 use Rattle.basics.specs.Limits.{Limits}
 use Rattle.basics.specs.Put.{put}
 use Rattle.joblist.specs.Fields.{slots}
 use Rattle.planfile.specs.Plan.{trailer_bytes, plan_of, low_at, list_of, low_of, high_of}
 use Rattle.planfile.specs.Answer.{write_of, out_after}
 use Rattle.planfile.specs.Round.{AllBytes, WritesBack}
-use Rattle.planfile.specs.declared.Wrote.TheVariants.{Bytes}
 use Rattle.planfile.proofs.Parts.{part_some}
 use Rattle.planfile.proofs.Rows.{write_plan}
 use Rattle.planfile.proofs.Accepted.{Read}
@@ -38,7 +38,7 @@ module _ (lim : Limits) (s : List ℕ) (r : Read lim s) (bytes : AllBytes s) whe
       rw (parts_join, parts_length, ← trailer_at s bytes (low_at s + slots s + slots s) size r.back r.marked)
       (take-append-drop (low_at s + slots s + slots s) s)
 
-  written : (out : List ℕ) → length s ≤ length out → (Bytes (length (plan_of (list_of s) (low_of s) (high_of s))) ≡ write_of lim (list_of s) (low_of s) (high_of s) (length out)) × (put out 0 (plan_of (list_of s) (low_of s) (high_of s)) ≡ out_after lim (list_of s) (low_of s) (high_of s) out)
+  written : (out : List ℕ) → length s ≤ length out → (Ok (length (plan_of (list_of s) (low_of s) (high_of s))) ≡ write_of lim (list_of s) (low_of s) (high_of s) (length out)) × (put out 0 (plan_of (list_of s) (low_of s) (high_of s)) ≡ out_after lim (list_of s) (low_of s) (high_of s) out)
   written out h = write_plan lim (list_of s) (low_of s) (high_of s) out r.checked (rw plan_again h)
 
   pub plan_writes : WritesBack lim s

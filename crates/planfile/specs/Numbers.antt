@@ -1,18 +1,15 @@
 -- The paper's number and place of each answer of reading and writing.
 -- Assumes nothing.
-use Rattle.std.specs.Prelude.{ℕ}
+use Rattle.std.specs.Prelude.{ℕ, Result, Ok, Err}
 use Rattle.joblist.specs.declared.Place.TheVariants.{Nowhere}
 use Rattle.verdict.specs.Numbers.{number_of, place_of}
 use Rattle.verdict.specs.declared.Spot.{Spot}
 use Rattle.verdict.specs.declared.Spot.TheVariants.{InList}
-use Rattle.planfile.specs.declared.ReadAnswer.{ReadAnswer}
-use Rattle.planfile.specs.declared.ReadAnswer.TheVariants.{Plan, No}
 use Rattle.planfile.specs.declared.ReadWhy.{ReadWhy}
 use Rattle.planfile.specs.declared.ReadWhy.TheVariants.{Short, Mark, Distance, Checked}
+use Rattle.planfile.specs.declared.Shape.{Shape}
 use Rattle.planfile.specs.declared.WriteWhy.{WriteWhy}
 use Rattle.planfile.specs.declared.WriteWhy.TheVariants.{Checked as NotChecked, Room}
-use Rattle.planfile.specs.declared.Wrote.{Wrote}
-use Rattle.planfile.specs.declared.Wrote.TheVariants.{Bytes, No as Unwritten}
 
 -- no place
 abbrev pub nowhere : Spot
@@ -33,13 +30,13 @@ read_why_place Distance = nowhere
 read_why_place (Checked w) = place_of w
 
 -- reading: 0 for yes
-abbrev pub read_number : ReadAnswer → ℕ
-read_number (Plan shape) = 0
-read_number (No w) = read_why_number w
+abbrev pub read_number : Result Shape ReadWhy → ℕ
+read_number (Ok shape) = 0
+read_number (Err w) = read_why_number w
 
-abbrev pub read_place : ReadAnswer → Spot
-read_place (Plan shape) = nowhere
-read_place (No w) = read_why_place w
+abbrev pub read_place : Result Shape ReadWhy → Spot
+read_place (Ok shape) = nowhere
+read_place (Err w) = read_why_place w
 
 -- why nothing was written: its number
 abbrev pub write_why_number : WriteWhy → ℕ
@@ -52,10 +49,10 @@ write_why_place (NotChecked w) = place_of w
 write_why_place Room = nowhere
 
 -- writing: 0 for yes
-abbrev pub wrote_number : Wrote → ℕ
-wrote_number (Bytes size) = 0
-wrote_number (Unwritten w) = write_why_number w
+abbrev pub wrote_number : Result ℕ WriteWhy → ℕ
+wrote_number (Ok size) = 0
+wrote_number (Err w) = write_why_number w
 
-abbrev pub wrote_place : Wrote → Spot
-wrote_place (Bytes size) = nowhere
-wrote_place (Unwritten w) = write_why_place w
+abbrev pub wrote_place : Result ℕ WriteWhy → Spot
+wrote_place (Ok size) = nowhere
+wrote_place (Err w) = write_why_place w

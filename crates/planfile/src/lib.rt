@@ -1,7 +1,7 @@
 // A plan in bytes: written from a list and two tables, read again, and taken apart.
 #![tactic(auto)]
 
-ghost use Rattle.std.specs.Prelude.{◌≡◌, ℕ, ◌+◌, ◌<◌, ◌≤◌, length, take, drop};
+ghost use Rattle.std.specs.Prelude.{◌≡◌, ℕ, ◌+◌, ◌<◌, ◌≤◌, length, take, drop, ◌↔◌, IsSome, IfSome};
 ghost use Rattle.basics.specs.Bytes.{u32_at};
 ghost use Rattle.basics.specs.Limits.{first_edition};
 ghost use Rattle.basics.specs.Put.{put};
@@ -10,7 +10,7 @@ ghost use Rattle.planfile.specs.Plan.{trailer_bytes, trailer, plan_of, plan_byte
 ghost use Rattle.planfile.specs.Answer.{shape_of, parts_answer, read_of, write_of, out_after};
 ghost use Rattle.planfile.specs.Numbers.{read_why_number, read_why_place, read_number, read_place, write_why_number, write_why_place, wrote_number, wrote_place};
 
-use joblist::{EDGE_BYTES, HEAD_BYTES, JOB_BYTES, Place};
+use joblist::{EDGE_BYTES, HEAD_BYTES, JOB_BYTES, Place, Why, edges_of, jobs_of, slots_of};
 use verdict::{Objection, Spot};
 
 // The mark that ends a plan of the first edition, 54 54 50 31, as the 32 bits that it is read as.
@@ -31,18 +31,33 @@ pub enum ReadWhy {
     Checked(Objection),
 }
 
+impl From<Objection> for ReadWhy {
+    ghost use Rattle.planfile.specs.declared.ReadWhy.TheVariants.{Checked};
+
+    ghost from_gives = { λ objection why. why ≡ Checked objection };
+
+    fn from(objection: Objection) -> ReadWhy {
+        ReadWhy::Checked(objection)
+    }
+}
+
+impl From<Why> for ReadWhy {
+    ghost use Rattle.verdict.specs.declared.Objection.TheVariants.{OfList};
+    ghost use Rattle.planfile.specs.declared.ReadWhy.TheVariants.{Checked};
+
+    ghost from_gives = { λ list why. why ≡ Checked (OfList list) };
+
+    fn from(list: Why) -> ReadWhy {
+        ReadWhy::Checked(Objection::OfList(list))
+    }
+}
+
 // The counts n and m, and the frame length L.
 #[derive(Clone, Copy)]
 pub struct Shape {
     pub jobs: usize,
     pub edges: usize,
     pub slots: usize,
-}
-
-#[derive(Clone, Copy)]
-pub enum ReadAnswer {
-    Plan(Shape),
-    No(ReadWhy),
 }
 
 // Why nothing was written.
@@ -52,10 +67,14 @@ pub enum WriteWhy {
     Room,
 }
 
-#[derive(Clone, Copy)]
-pub enum Wrote {
-    Bytes(usize),
-    No(WriteWhy),
+impl From<Objection> for WriteWhy {
+    ghost use Rattle.planfile.specs.declared.WriteWhy.TheVariants.{Checked};
+
+    ghost from_gives = { λ objection why. why ≡ Checked objection };
+
+    fn from(objection: Objection) -> WriteWhy {
+        WriteWhy::Checked(objection)
+    }
 }
 
 // The paper's number of a refused plan.
@@ -83,21 +102,21 @@ pub fn read_why_place(w: ReadWhy) -> Spot
 }
 
 // Reading: 0 for yes.
-pub fn read_number(a: ReadAnswer) -> usize
+pub fn read_number(a: Result<Shape, ReadWhy>) -> usize
     ensures { result ≡ read_number a }
 {
     match a {
-        ReadAnswer::Plan(_) => 0,
-        ReadAnswer::No(w) => read_why_number(w),
+        Ok(_shape) => 0,
+        Err(w) => read_why_number(w),
     }
 }
 
-pub fn read_place(a: ReadAnswer) -> Spot
+pub fn read_place(a: Result<Shape, ReadWhy>) -> Spot
     ensures { result ≡ read_place a }
 {
     match a {
-        ReadAnswer::Plan(_) => Spot::InList(Place::Nowhere),
-        ReadAnswer::No(w) => read_why_place(w),
+        Ok(_shape) => Spot::InList(Place::Nowhere),
+        Err(w) => read_why_place(w),
     }
 }
 
@@ -122,32 +141,21 @@ pub fn write_why_place(w: WriteWhy) -> Spot
 }
 
 // Writing: 0 for yes.
-pub fn wrote_number(a: Wrote) -> usize
+pub fn wrote_number(a: Result<usize, WriteWhy>) -> usize
     ensures { result ≡ wrote_number a }
 {
     match a {
-        Wrote::Bytes(_) => 0,
-        Wrote::No(w) => write_why_number(w),
+        Ok(_length) => 0,
+        Err(w) => write_why_number(w),
     }
 }
 
-pub fn wrote_place(a: Wrote) -> Spot
+pub fn wrote_place(a: Result<usize, WriteWhy>) -> Spot
     ensures { result ≡ wrote_place a }
 {
     match a {
-        Wrote::Bytes(_) => Spot::InList(Place::Nowhere),
-        Wrote::No(w) => write_why_place(w),
-    }
-}
-
-// Puts the bytes of s into out from `at` on.
-#[tactic(auto, using(basics::proofs::Put::put_none))]
-fn copy_at(out: &mut [u8], at: usize, s: &[u8])
-    requires { at + length s.now ≤ length out.old }
-    ensures { out.new ≡ put out.old at s.now }
-{
-    for i in 0..s.len() {
-        out[at + i] = s[i];
+        Ok(_length) => Spot::InList(Place::Nowhere),
+        Err(w) => write_why_place(w),
     }
 }
 
@@ -155,20 +163,12 @@ fn copy_at(out: &mut [u8], at: usize, s: &[u8])
 fn trailer_of(back: usize) -> [u8; TRAILER_BYTES]
     ensures { result ≡ trailer back }
 {
-    [
-        (back % 256) as u8,
-        (back / 256 % 256) as u8,
-        (back / 256 / 256 % 256) as u8,
-        (back / 256 / 256 / 256 % 256) as u8,
-        (MARK % 256) as u8,
-        (MARK / 256 % 256) as u8,
-        (MARK / 256 / 256 % 256) as u8,
-        (MARK / 256 / 256 / 256 % 256) as u8,
-    ]
+    let [a, b, c, d, ..] = back.to_le_bytes();
+    let [e, f, g, h, ..] = MARK.to_le_bytes();
+    [a, b, c, d, e, f, g, h]
 }
 
 // Inner: the plan of a list and two tables that were checked, at the front of a buffer that has room; its length. Who builds a pair writes it so too.
-#[tactic(auto, using(crate::proofs::Written::plan_length, crate::proofs::Written::four))]
 pub fn put_plan(list: &[u8], lo: &[u8], hi: &[u8], out: &mut [u8]) -> usize
     requires { length list.now + length lo.now + length hi.now + trailer_bytes ≤ length out.old }
     ensures { (result ≡ length (plan_of list.now lo.now hi.now))
@@ -177,28 +177,25 @@ pub fn put_plan(list: &[u8], lo: &[u8], hi: &[u8], out: &mut [u8]) -> usize
     let low = list.len();
     let high = low + lo.len();
     let back = high + hi.len();
-    let t = trailer_of(back);
-    copy_at(out, 0, list);
-    copy_at(out, low, lo);
-    copy_at(out, high, hi);
-    copy_at(out, back, &t);
-    back + TRAILER_BYTES
+    let end = back + TRAILER_BYTES;
+    out[..low].copy_from_slice(list);
+    out[low..high].copy_from_slice(lo);
+    out[high..back].copy_from_slice(hi);
+    out[back..end].copy_from_slice(&trailer_of(back));
+    end
 }
 
 // Writes the plan at the front of `out`, where the check says yes and there is room; no byte changes otherwise.
-#[tactic(auto, using(crate::proofs::Accepted::pair_fits))]
-pub fn write(list: &[u8], lo: &[u8], hi: &[u8], out: &mut [u8]) -> Wrote
+#[tactic(auto, using(crate::proofs::Accepted::pair_fits, crate::proofs::Written::plan_length), unfolding(crate::specs::Answer::write_of, crate::specs::Answer::out_after))]
+pub fn write(list: &[u8], lo: &[u8], hi: &[u8], out: &mut [u8]) -> Result<usize, WriteWhy>
     ensures { (result ≡ write_of first_edition list.now lo.now hi.now (length out.old))
         × (out.new ≡ out_after first_edition list.now lo.now hi.now out.old) }
 {
-    let v = verdict::check(list, lo, hi);
-    if let Err(w) = v {
-        return Wrote::No(WriteWhy::Checked(w));
-    }
+    verdict::check(list, lo, hi)?;
     if out.len() < list.len() + lo.len() + hi.len() + TRAILER_BYTES {
-        return Wrote::No(WriteWhy::Room);
+        return Err(WriteWhy::Room);
     }
-    Wrote::Bytes(put_plan(list, lo, hi, out))
+    Ok(put_plan(list, lo, hi, out))
 }
 
 // Inner: the 32 bits at i. The log reads a trailer so too.
@@ -207,41 +204,72 @@ pub fn u32_at(s: &[u8], i: usize) -> usize
     requires { i + 3 < length s.now }
     ensures { result ≡ u32_at s.now i }
 {
-    joblist::wide(s[i])
-        + 256 * joblist::wide(s[i + 1])
-        + 65536 * joblist::wide(s[i + 2])
-        + 16777216 * joblist::wide(s[i + 3])
-}
-
-// Where table LO begins: after the list.
-fn low_at(plan: &[u8]) -> usize
-    requires { least_bytes ≤ length plan.now }
-    ensures { (result ≡ low_at plan.now) × (result < 1000000) }
-{
-    HEAD_BYTES + JOB_BYTES * joblist::jobs_of(plan) + EDGE_BYTES * joblist::edges_of(plan)
-}
-
-// Inner: the length that the counts give a plan. The log finds a plan's end so too.
-pub fn size_of(plan: &[u8]) -> usize
-    requires { least_bytes ≤ length plan.now }
-    ensures { (result ≡ plan_bytes (jobs plan.now) (edges plan.now) (slots plan.now)) × (result < 2000000) }
-{
-    low_at(plan) + 2 * joblist::slots_of(plan) + TRAILER_BYTES
+    u32::from_le_bytes([s[i], s[i + 1], s[i + 2], s[i + 3]]) as usize
 }
 
 // k bytes from `at` on, as many of them as are there.
-#[tactic(auto, using(crate::proofs::Parts::part_past, crate::proofs::Parts::part_rest, crate::proofs::Parts::part_within))]
+#[tactic(auto, using(crate::proofs::Parts::part_rest))]
 fn part(s: &[u8], at: usize, k: usize) -> &[u8]
     ensures { result.now ≡ take k (drop at s.now) }
 {
-    let n = s.len();
-    if n < at {
-        return &s[n..n];
+    let rest = &s[at.min(s.len())..];
+    &rest[..k.min(rest.len())]
+}
+
+// Bytes as many as the shortest plan has, so that they have counts.
+#[derive(Clone, Copy)]
+pub struct Counted<'a> {
+    pub bytes: &'a [u8],
+    ghost long: { least_bytes ≤ length bytes.now },
+}
+
+impl<'a> Counted<'a> {
+    // None of fewer bytes.
+    pub fn of(bytes: &'a [u8]) -> Option<Self>
+        ensures long { IsSome result ↔ (least_bytes ≤ length bytes.now) }
+        ensures same { IfSome result (λ plan. plan.bytes.now ≡ bytes.now) }
+    {
+        if bytes.len() < LEAST_BYTES {
+            return None;
+        }
+        Some(Counted { bytes })
     }
-    if n - at < k {
-        return &s[at..n];
+
+    // The counts.
+    fn shape(self) -> Shape
+        ensures { result ≡ shape_of self.entry.bytes.now }
+    {
+        Shape {
+            jobs: jobs_of(self.bytes),
+            edges: edges_of(self.bytes),
+            slots: slots_of(self.bytes),
+        }
     }
-    &s[at..at + k]
+
+    // Where table LO begins: after the list.
+    fn low_at(self) -> usize
+        ensures { (result ≡ low_at self.entry.bytes.now) × (result < 1000000) }
+    {
+        HEAD_BYTES + JOB_BYTES * jobs_of(self.bytes) + EDGE_BYTES * edges_of(self.bytes)
+    }
+
+    // Inner: the length that the counts give a plan. The log finds a plan's end so too.
+    pub fn size(self) -> usize
+        ensures { (result ≡ plan_bytes (jobs self.entry.bytes.now) (edges self.entry.bytes.now) (slots self.entry.bytes.now)) × (result < 2000000) }
+    {
+        self.low_at() + 2 * slots_of(self.bytes) + TRAILER_BYTES
+    }
+
+    // The list's rows, with the plan's own length, and then the check of the parts.
+    #[tactic(auto, unfolding(crate::specs::Answer::parts_answer))]
+    fn read(self) -> Result<Shape, ReadWhy>
+        ensures { result ≡ parts_answer first_edition self.entry.bytes.now }
+    {
+        let plan = self.bytes;
+        joblist::check_front(plan, self.size())?;
+        verdict::check(list_of(plan), low_of(plan), high_of(plan))?;
+        Ok(self.shape())
+    }
 }
 
 // The list of a plan, as much of it as lies in the bytes; nothing of fewer than 16 bytes.
@@ -249,10 +277,10 @@ fn part(s: &[u8], at: usize, k: usize) -> &[u8]
 pub fn list_of(plan: &[u8]) -> &[u8]
     ensures { result.now ≡ list_of plan.now }
 {
-    if plan.len() < LEAST_BYTES {
-        return &plan[0..0];
+    match Counted::of(plan) {
+        Some(counted) => part(plan, 0, counted.low_at()),
+        None => &[],
     }
-    part(plan, 0, low_at(plan))
 }
 
 // Its table LO, in the same way.
@@ -260,12 +288,10 @@ pub fn list_of(plan: &[u8]) -> &[u8]
 pub fn low_of(plan: &[u8]) -> &[u8]
     ensures { result.now ≡ low_of plan.now }
 {
-    if plan.len() < LEAST_BYTES {
-        return &plan[0..0];
+    match Counted::of(plan) {
+        Some(counted) => part(plan, counted.low_at(), slots_of(plan)),
+        None => &[],
     }
-    let at = low_at(plan);
-    let l = joblist::slots_of(plan);
-    part(plan, at, l)
 }
 
 // Its table HI, in the same way.
@@ -273,61 +299,24 @@ pub fn low_of(plan: &[u8]) -> &[u8]
 pub fn high_of(plan: &[u8]) -> &[u8]
     ensures { result.now ≡ high_of plan.now }
 {
-    if plan.len() < LEAST_BYTES {
-        return &plan[0..0];
+    match Counted::of(plan) {
+        Some(counted) => part(plan, counted.low_at() + slots_of(plan), slots_of(plan)),
+        None => &[],
     }
-    let at = low_at(plan);
-    let l = joblist::slots_of(plan);
-    part(plan, at + l, l)
-}
-
-// The counts of a plan.
-fn shape_of(plan: &[u8]) -> Shape
-    requires { least_bytes ≤ length plan.now }
-    ensures { result ≡ shape_of plan.now }
-{
-    Shape {
-        jobs: joblist::jobs_of(plan),
-        edges: joblist::edges_of(plan),
-        slots: joblist::slots_of(plan),
-    }
-}
-
-// The list's rows, with the plan's own length, and then the check of the parts.
-#[tactic(auto, using(crate::proofs::Rows::parts_list, crate::proofs::Rows::parts_check, crate::proofs::Rows::parts_plan))]
-fn read_parts(plan: &[u8]) -> ReadAnswer
-    requires { least_bytes ≤ length plan.now }
-    ensures { result ≡ parts_answer first_edition plan.now }
-{
-    let whole = size_of(plan);
-    let f = joblist::check_front(plan, whole);
-    if let Err(w) = f {
-        return ReadAnswer::No(ReadWhy::Checked(Objection::OfList(w)));
-    }
-    let list = list_of(plan);
-    let low = low_of(plan);
-    let high = high_of(plan);
-    let v = verdict::check(list, low, high);
-    if let Err(w) = v {
-        return ReadAnswer::No(ReadWhy::Checked(w));
-    }
-    ReadAnswer::Plan(shape_of(plan))
 }
 
 // What the bytes of a slice are: a plan, with its counts, or why not.
-#[tactic(auto, using(crate::proofs::Rows::read_short, crate::proofs::Rows::read_mark, crate::proofs::Rows::read_distance, crate::proofs::Rows::read_rest), unfolding(basics::specs::Bytes::u32_at))]
-pub fn read(plan: &[u8]) -> ReadAnswer
+#[tactic(auto, unfolding(crate::specs::Answer::read_of, basics::specs::Bytes::u32_at))]
+pub fn read(plan: &[u8]) -> Result<Shape, ReadWhy>
     ensures { result ≡ read_of first_edition plan.now }
 {
-    let n = plan.len();
-    if n < LEAST_BYTES {
-        return ReadAnswer::No(ReadWhy::Short);
+    let counted = Counted::of(plan).ok_or(ReadWhy::Short)?;
+    let back = plan.len() - TRAILER_BYTES;
+    if u32_at(plan, back + 4) != MARK {
+        return Err(ReadWhy::Mark);
     }
-    if u32_at(plan, n - 4) != MARK {
-        return ReadAnswer::No(ReadWhy::Mark);
+    if u32_at(plan, back) != back {
+        return Err(ReadWhy::Distance);
     }
-    if u32_at(plan, n - TRAILER_BYTES) != n - TRAILER_BYTES {
-        return ReadAnswer::No(ReadWhy::Distance);
-    }
-    read_parts(plan)
+    counted.read()
 }

@@ -7,13 +7,13 @@ use mathlib.Core.List.{List, [], ◌∷◌, ◌++◌}
 use native.Mathlib.Omega.{arith}
 use lib.ListN.{length, take, drop, replicate, length-drop, take-append-drop}
 use lib.Seq.{length-take-le, take_at, drop-append-le, take-append-le, get_or-drop}
+use Rattle.std.specs.Prelude.{Ok}
 use Rattle.basics.specs.Limits.{Limits}
 use Rattle.planfile.specs.Round.{AllBytes}
 use Rattle.logwalk.specs.Walk.{plan_at, end_of, walk, last_in, last_end}
 use Rattle.planlog.specs.Writes.{zeros, after}
 use Rattle.logwalk.specs.Answer.{bytes_of, newest_in}
 use Rattle.planlog.specs.Cut.{Kept}
-use Rattle.logwalk.specs.declared.Found.TheVariants.{Plan as Whole}
 use Rattle.logwalk.specs.declared.Span.{Span}
 use Rattle.logwalk.proofs.Here.{behind_plan}
 use Rattle.logwalk.proofs.Plans.{Plans, walk_plans, walk_ends, end_within, walk_is, plans_front}
@@ -76,7 +76,7 @@ unfolding last_in
 last_snoc p q [] = refl
 last_snoc p q (r ∷ l) = last_snoc r q l
 
-pub newest_snoc : (q : Span) (l : List Span) → newest_in (l ++ (q ∷ [])) ≡ Whole q
+pub newest_snoc : (q : Span) (l : List Span) → newest_in (l ++ (q ∷ [])) ≡ Ok q
 unfolding last_in
 newest_snoc q [] = refl
-newest_snoc q (p ∷ l) = ap Whole (last_snoc p q l)
+newest_snoc q (p ∷ l) = ap Ok (last_snoc p q l)

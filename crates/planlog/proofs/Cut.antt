@@ -9,6 +9,7 @@ use native.Mathlib.Decide.{dec_le}
 use lib.ListN.{length, take, replicate, length-drop, length-append}
 use lib.Seq.{take-length, take_at, drop_at, drop-append-add}
 use borrow.Author.Tests.{le-leb}
+use Rattle.std.specs.Prelude.{Ok, Err}
 use Rattle.basics.specs.Limits.{Limits}
 use Rattle.basics.proofs.Tests.{not_both}
 use Rattle.planfile.specs.Round.{AllBytes}
@@ -18,7 +19,6 @@ use Rattle.logwalk.specs.Answer.{store_most, newest_of}
 use Rattle.planlog.specs.Answer.{append_of, cut_store, appended_store}
 use Rattle.planlog.specs.Cut.{new_span, Old, New, Safe}
 use Rattle.planlog.specs.declared.AppendWhy.{AppendWhy}
-use Rattle.planlog.specs.declared.Appended.TheVariants.{At, No as NotAppended}
 use Rattle.logwalk.proofs.Reader.{long, size}
 use Rattle.logwalk.proofs.Here.{size_least, size_front, front_plan, behind_plan, behind_size}
 use Rattle.planlog.proofs.Cutoff.{cut_off}
@@ -107,7 +107,7 @@ module _ (lim : Limits) (s plan : List ℕ) (good : accepts lim plan ≡ true) (
       }
 
 -- an append that says yes: before the last write the newest plan is the old one, and from then on the new one
-pub append_safe : (lim : Limits) (s plan : List ℕ) (x : ℕ) → AllBytes s → AllBytes plan → append_of lim s plan ≡ At x → Safe lim s plan
+pub append_safe : (lim : Limits) (s plan : List ℕ) (x : ℕ) → AllBytes s → AllBytes plan → append_of lim s plan ≡ Ok x → Safe lim s plan
 append_safe lim s plan x bytes plan-bytes h =
     let f = append_yes lim s plan x h in
     let n : length (appended_store lim s plan) ≡ length s = rw (← cut_whole lim s plan (length (writes_of lim s plan)) (omega arith), (made lim s plan x (length (writes_of lim s plan)) h).0) (same_size lim s plan f.room (length (writes_of lim s plan))) in
@@ -119,5 +119,5 @@ append_safe lim s plan x bytes plan-bytes h =
     }
 
 -- an append that is refused leaves every byte as it was, cut or not
-pub refusal_leaves : (lim : Limits) (s plan : List ℕ) (w : AppendWhy) → append_of lim s plan ≡ NotAppended w → ((k : ℕ) → cut_store lim s plan k ≡ s) × (appended_store lim s plan ≡ s)
+pub refusal_leaves : (lim : Limits) (s plan : List ℕ) (w : AppendWhy) → append_of lim s plan ≡ Err w → ((k : ℕ) → cut_store lim s plan k ≡ s) × (appended_store lim s plan ≡ s)
 refusal_leaves lim s plan w h = ((λ k. sym (cut_leaves lim s plan k w h)), sym (append_leaves lim s plan w h))

@@ -9,11 +9,16 @@ use native.Mathlib.Decide.{dec_le}
 use lib.ListN.{length, get_or, set, take, drop, replicate, length-set, length-append, length-replicate, get_or-append}
 use lib.Seq.{take-suc, take_all, take-length, take_at, drop-append-add, take-append-le, take-append-add, append_snoc, set_at, length-take-le, get_or-append-add}
 use borrow.Author.Tests.{le-leb, lt-leb}
+use Rattle.std.specs.Prelude.{Some, None, slice_get}
+use Rattle.std.proofs.lemmas.Option.{slice_get_past, slice_get_within, get_or_from_slice_get, slice_get-get_or}
 use Rattle.basics.specs.Put.{put}
-use Rattle.basics.proofs.At.{get_d_past}
 use Rattle.basics.proofs.Put.{put_none, put_more}
-use Rattle.planlog.specs.Writes.{zeros, copies, writes_at, no_write, nth_write, written, after}
+use Rattle.planlog.specs.Writes.{zeros, copies, writes_at, nth_write, written, after}
 use Rattle.planlog.specs.declared.Write.{Write}
+
+-- what stands past the last write, in these laws
+abbrev blank : Write
+blank = record { place = 0; byte = 0 }
 
 pub zeros_length : (end n : ℕ) → length (zeros end n) ≡ n
 unfolding zeros
@@ -24,6 +29,9 @@ pub copies_length : (at : ℕ) (xs : List ℕ) → length (copies at xs) ≡ len
 unfolding copies
 copies_length at [] = refl
 copies_length at (x ∷ xs) = ap suc (copies_length (suc at) xs)
+
+pub copies_all : (at : ℕ) (xs : List ℕ) (i : ℕ) → length xs ≤ i → take i (copies at xs) ≡ copies at xs
+copies_all at xs i h = take_all i (copies at xs) (omega (arith, copies_length at xs))
 
 pub writes_length : (size end : ℕ) (plan : List ℕ) → length (writes_at size end plan) ≡ size - end + length plan
 unfolding writes_at
@@ -46,33 +54,37 @@ copies_nth d at (x ∷ xs) (suc k) h =
 
 -- write k: a zero, a byte of the plan, or none
 module _ (size end : ℕ) (plan : List ℕ) (k : ℕ) where
-  pub nth_beyond : size < end + length plan → no_write size ≡ nth_write size end plan k
+  pub nth_beyond : size < end + length plan → None ≡ nth_write size end plan k
   unfolding nth_write
   nth_beyond h = rw (lt-leb _ _ h)
 
   module _ (fits : end + length plan ≤ size) where
-    pub nth_listed : nth_write size end plan k ≡ get_or (writes_at size end plan) k (no_write size)
+    pub nth_listed : nth_write size end plan k ≡ slice_get (writes_at size end plan) k
     unfolding nth_write
     nth_listed = rw (le-leb _ _ fits)
 
-    pub nth_zero : k < size - end → record { place = size - (k + 1); byte = 0 } ≡ nth_write size end plan k
+    nth_some : (w : Write) → k < size - end + length plan → get_or (writes_at size end plan) k blank ≡ w → Some w ≡ nth_write size end plan k
+    nth_some w h e =
+        sym (nth_listed ∙ slice_get-get_or (writes_at size end plan) k blank (omega (arith, writes_length size end plan)) ∙ ap Some e)
+
+    pub nth_zero : k < size - end → Some (record { place = size - (k + 1); byte = 0 }) ≡ nth_write size end plan k
     unfolding writes_at
     nth_zero h =
         let e : size - (k + 1) ≡ end + (size - end - suc k) = omega arith in
-        let z = zeros_nth (no_write size) end (size - end) k (size - end - suc k) (omega arith) in
-        let a = get_or-append (zeros end (size - end)) (copies end plan) (no_write size) k (omega (arith, zeros_length end (size - end))) in
-        rw (nth_listed, a, z, e)
+        let z = zeros_nth blank end (size - end) k (size - end - suc k) (omega arith) in
+        let a = get_or-append (zeros end (size - end)) (copies end plan) blank k (omega (arith, zeros_length end (size - end))) in
+        nth_some _ (omega arith) (rw (a, z, e))
 
-    pub nth_byte : size - end ≤ k → k - (size - end) < length plan → record { place = end + (k - (size - end)); byte = get_or plan (k - (size - end)) 0 } ≡ nth_write size end plan k
+    pub nth_byte : size - end ≤ k → k - (size - end) < length plan → Some (record { place = end + (k - (size - end)); byte = get_or plan (k - (size - end)) 0 }) ≡ nth_write size end plan k
     unfolding writes_at
     nth_byte h l =
         let j = k - (size - end) in
         let e : k ≡ length (zeros end (size - end)) + j = omega (arith, zeros_length end (size - end)) in
-        let a = rw (← e) at (get_or-append-add (zeros end (size - end)) (copies end plan) j (no_write size)) in
-        sym (nth_listed ∙ a ∙ copies_nth (no_write size) end plan j l)
+        let a = rw (← e) at (get_or-append-add (zeros end (size - end)) (copies end plan) j blank) in
+        nth_some _ (omega arith) (a ∙ copies_nth blank end plan j l)
 
-    pub nth_past : size - end + length plan ≤ k → no_write size ≡ nth_write size end plan k
-    nth_past h = sym (nth_listed ∙ get_d_past (writes_at size end plan) k (no_write size) (omega (arith, writes_length size end plan)))
+    pub nth_past : size - end + length plan ≤ k → None ≡ nth_write size end plan k
+    nth_past h = sym (nth_listed ∙ slice_get_past (writes_at size end plan) k (omega (arith, writes_length size end plan)))
 
 pub after_append : (s : List ℕ) (xs ys : List Write) → after s (xs ++ ys) ≡ after (after s xs) ys
 unfolding after
@@ -92,17 +104,21 @@ pub after_next : (d : Write) (s : List ℕ) (ws : List Write) (k : ℕ) → k < 
 unfolding after
 after_next d s ws k h = rw (take-suc ws k d h) (after_append s (take k ws) (get_or ws k d ∷ []))
 
+pub after_some : (s : List ℕ) (ws : List Write) (k : ℕ) (w : Write) → slice_get ws k ≡ Some w → after s (take (suc k) ws) ≡ written (after s (take k ws)) w
+after_some s ws k w e =
+    after_next blank s ws k (slice_get_within ws k w e) ∙ ap (written (after s (take k ws))) (get_or_from_slice_get ws k w blank e)
+
 -- one zero more, and one byte more
 zero_next : (s : List ℕ) (end n k j : ℕ) → k + suc j ≡ n → after s (take (suc k) (zeros end n)) ≡ set (after s (take k (zeros end n))) (end + j) 0
 zero_next s end n k j h =
-    let w = zeros_nth (no_write 0) end n k j h in
-    let a = after_next (no_write 0) s (zeros end n) k (omega (arith, zeros_length end n)) in
+    let w = zeros_nth blank end n k j h in
+    let a = after_next blank s (zeros end n) k (omega (arith, zeros_length end n)) in
     rw w at a
 
 copy_next : (s : List ℕ) (at : ℕ) (xs : List ℕ) (k : ℕ) → k < length xs → after s (take (suc k) (copies at xs)) ≡ set (after s (take k (copies at xs))) (at + k) (get_or xs k 0)
 copy_next s at xs k h =
-    let w = copies_nth (no_write 0) at xs k h in
-    let a = after_next (no_write 0) s (copies at xs) k (omega (arith, copies_length at xs)) in
+    let w = copies_nth blank at xs k h in
+    let a = after_next blank s (copies at xs) k (omega (arith, copies_length at xs)) in
     rw w at a
 
 -- the same, as the loops make them
@@ -165,10 +181,17 @@ take_two xs ys most k j hk hj = go (dec_le most (length xs))
             let b : j ≡ length ys = omega arith in
             rw (b, take-length ys) (sym (take_all (most - length xs) ys (omega arith)))
 
-pub writes_two : (s : List ℕ) (end : ℕ) (plan : List ℕ) (most k j : ℕ) → k ≡ min (length s - end) most → j ≡ min (length plan) (most - k) → after (after s (take k (zeros end (length s - end)))) (take j (copies end plan)) ≡ after s (take most (writes_at (length s) end plan))
+copies_take : (at : ℕ) (xs : List ℕ) (j : ℕ) → copies at (take j xs) ≡ take j (copies at xs)
+unfolding copies
+copies_take at xs zero = refl
+copies_take at [] (suc j) = refl
+copies_take at (x ∷ xs) (suc j) = ap (λ ws. record { place = at; byte = x } ∷ ws) (copies_take (suc at) xs j)
+
+pub writes_two : (s : List ℕ) (end : ℕ) (plan : List ℕ) (most k j : ℕ) → k ≡ min most (length s - end) → j ≡ min (length plan) (most - k) → after (after s (take k (zeros end (length s - end)))) (copies end (take j plan)) ≡ after s (take most (writes_at (length s) end plan))
 unfolding writes_at
 writes_two s end plan most k j hk hj =
     let zs = zeros end (length s - end) in
     let cs = copies end plan in
-    sym (after_append s (take k zs) (take j cs))
-    ∙ ap (after s) (take_two zs cs most k j (rw (zeros_length end (length s - end)) hk) (rw (copies_length end plan) hj))
+    rw (copies_take end plan j)
+    (sym (after_append s (take k zs) (take j cs))
+    ∙ ap (after s) (take_two zs cs most k j (rw (zeros_length end (length s - end)) (omega arith)) (rw (copies_length end plan) hj)))

@@ -1,12 +1,10 @@
 -- The paper's number and place of each answer of the log.
 -- Assumes nothing.
-use Rattle.std.specs.Prelude.{ℕ}
+use Rattle.std.specs.Prelude.{ℕ, Result, Ok, Err}
 use Rattle.verdict.specs.declared.Spot.{Spot}
 use Rattle.planfile.specs.Numbers.{nowhere, read_why_number, read_why_place}
 use Rattle.planlog.specs.declared.AppendWhy.{AppendWhy}
 use Rattle.planlog.specs.declared.AppendWhy.TheVariants.{Large, Refused, Full}
-use Rattle.planlog.specs.declared.Appended.{Appended}
-use Rattle.planlog.specs.declared.Appended.TheVariants.{At, No as NotAppended}
 
 -- why nothing was appended: its number
 abbrev pub append_why_number : AppendWhy → ℕ
@@ -21,10 +19,10 @@ append_why_place (Refused w) = read_why_place w
 append_why_place Full = nowhere
 
 -- an append: 0 for yes
-abbrev pub append_number : Appended → ℕ
-append_number (At start) = 0
-append_number (NotAppended w) = append_why_number w
+abbrev pub append_number : Result ℕ AppendWhy → ℕ
+append_number (Ok start) = 0
+append_number (Err w) = append_why_number w
 
-abbrev pub append_place : Appended → Spot
-append_place (At start) = nowhere
-append_place (NotAppended w) = append_why_place w
+abbrev pub append_place : Result ℕ AppendWhy → Spot
+append_place (Ok start) = nowhere
+append_place (Err w) = append_why_place w

@@ -1,6 +1,6 @@
 -- The byte writes of an append, in their order, and the store after the first of them.
 -- Assumes nothing.
-use Rattle.std.specs.Prelude.{ℕ, zero, suc, ◌+◌, ◌-◌, cond, List, [], ◌∷◌, ◌++◌, length, get_or, take, set, leb}
+use Rattle.std.specs.Prelude.{ℕ, zero, suc, ◌+◌, ◌-◌, cond, List, [], ◌∷◌, ◌++◌, length, take, set, leb, Option, None, slice_get}
 use Rattle.basics.specs.Limits.{Limits}
 use Rattle.logwalk.specs.Walk.{last_end}
 use Rattle.planlog.specs.declared.Write.{Write}
@@ -23,14 +23,9 @@ writes_at size end plan = zeros end (size - end) ++ copies end plan
 unfoldable pub writes_of : Limits → List ℕ → List ℕ → List Write
 writes_of lim s plan = writes_at (length s) (last_end lim s) plan
 
--- no write: its place is past a store of so many bytes
-abbrev pub no_write : ℕ → Write
-no_write size = record { place = size; byte = 0 }
-
--- write k of them, where the plan fits; no write past the last
-unfoldable pub nth_write : ℕ → ℕ → List ℕ → ℕ → Write
-nth_write size end plan k =
-    cond (leb (end + length plan) size) (get_or (writes_at size end plan) k (no_write size)) (no_write size)
+-- write k of them, where the plan fits; none past the last
+unfoldable pub nth_write : ℕ → ℕ → List ℕ → ℕ → Option Write
+nth_write size end plan k = cond (leb (end + length plan) size) (slice_get (writes_at size end plan) k) None
 
 -- the store after one write, and after several
 abbrev pub written : List ℕ → Write → List ℕ

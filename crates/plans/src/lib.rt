@@ -7,7 +7,7 @@ use joblist::{EDGE_BYTES, HEAD_BYTES, JOB_BYTES, MOST_EDGES, MOST_JOBS, MOST_SLO
 use jobtext::Names;
 use merge::Built;
 use page::{Page, less};
-use planfile::{ReadAnswer, TRAILER_BYTES, WriteWhy, Wrote};
+use planfile::{ReadWhy, Shape, TRAILER_BYTES, WriteWhy};
 use verdict::Spot;
 
 // No plan has more bytes: the largest list, two tables and the trailer.
@@ -29,11 +29,11 @@ fn built(list: &[u8], plan: &mut [u8]) -> Built {
     merge::build(list, plan)
 }
 
-fn answer(plan: &[u8]) -> ReadAnswer {
+fn answer(plan: &[u8]) -> Result<Shape, ReadWhy> {
     planfile::read(plan)
 }
 
-fn wrote(plan: &[u8], out: &mut [u8]) -> Wrote {
+fn wrote(plan: &[u8], out: &mut [u8]) -> Result<usize, WriteWhy> {
     planfile::write(list_of(plan), low_of(plan), high_of(plan), out)
 }
 
@@ -88,12 +88,12 @@ fn unwritten(page: Page, plan: &[u8], names: Names, w: WriteWhy) -> Page {
 pub fn write(page: Page, plan: &[u8], names: Names) -> Plan {
     let mut bytes = [0u8; PLAN_ROOM];
     match wrote(plan, &mut bytes) {
-        Wrote::Bytes(k) => Plan {
+        Ok(k) => Plan {
             bytes: bytes,
             size: k,
             page: page,
         },
-        Wrote::No(w) => Plan {
+        Err(w) => Plan {
             bytes: bytes,
             size: 0,
             page: unwritten(page, plan, names, w),
@@ -143,8 +143,8 @@ pub fn is_whole(plan: &[u8]) -> bool {
 // The fault of a plan, or why it is none; nothing where it is accepted.
 pub fn put_fault(page: Page, plan: &[u8], names: Names) -> Page {
     match answer(plan) {
-        ReadAnswer::Plan(_) => page,
-        ReadAnswer::No(w) => {
+        Ok(_) => page,
+        Err(w) => {
             let no = words::at_spot(planfile::read_why_number(w), planfile::read_why_place(w));
             words::tell(page, list_of(plan), &names, no)
         }
