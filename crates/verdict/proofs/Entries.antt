@@ -1,7 +1,12 @@
 -- Laws of the count: one slot more, its bound, and a job that no byte names.
 -- Assumes nothing.
 use mathlib.Core.List.{List}
-use mathlib.Core.Path.{◌∙◌, ◌≡◌}
+use mathlib.Core.Bool.{Bool, false, true}
+use mathlib.Core.Path.{◌∙◌, ◌≡◌, ap, refl, sym}
+use borrow.Author.Tests.{eqb-false, eqb-true}
+use lib.Dec.{eqb}
+use Rattle.std.specs.Prelude.{count_by, take}
+use Rattle.std.proofs.lemmas.List.Sums.{count_by_more_no, count_by_more_yes}
 use Prim.Native.Nat.{◌+◌, ◌<◌, ◌≤◌, min, suc, zero, ℕ}
 use native.Mathlib.Decide.{dec_lt}
 use native.Mathlib.Numerals.{add-one}
@@ -23,6 +28,15 @@ module _ (table : List ℕ) (job t : ℕ) where
 
   pub count_else : (count : ℕ) → count ≡ entries_before (entry_at table) job t → ¬ (entry_at table t ≡ job) → count ≡ entries_before (entry_at table) job (t + 1)
   count_else count h e = rw (add-one t) (omega (arith, h, entries_else (entry_at table) job t e))
+
+-- a count of the entries before a slot is one of a list's elements
+pub entries_counted : (table : List ℕ) (job t : ℕ) → t ≤ length table → entries_before (entry_at table) job t ≡ count_by (λ x. eqb x job) (take t table)
+entries_counted table job zero h = entries_zero (entry_at table) job
+entries_counted table job (suc t) h = go (eqb (entry_at table t) job) refl (entries_counted table job t (omega arith))
+  where
+    go : (b : Bool) → eqb (entry_at table t) job ≡ b → entries_before (entry_at table) job t ≡ count_by (λ x. eqb x job) (take t table) → entries_before (entry_at table) job (suc t) ≡ count_by (λ x. eqb x job) (take (suc t) table)
+    go true e ih = entries_here (entry_at table) job t (eqb-true _ _ e) ∙ ap suc ih ∙ sym (add-one _) ∙ sym (count_by_more_yes (λ x. eqb x job) table t idle (omega arith) e) ∙ ap (λ (k : ℕ). count_by (λ x. eqb x job) (take k table)) (add-one t)
+    go false e ih = entries_else (entry_at table) job t (eqb-false _ _ e) ∙ ih ∙ sym (count_by_more_no (λ x. eqb x job) table t idle (omega arith) e) ∙ ap (λ (k : ℕ). count_by (λ x. eqb x job) (take k table)) (add-one t)
 
 pub entries_in_most : (table : List ℕ) (job t : ℕ) → entries_in table job t ≤ length table
 unfolding entries_in

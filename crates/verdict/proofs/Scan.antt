@@ -1,6 +1,6 @@
 -- One turn of the scan, as its loop takes it: a fault here, the last slot, and the next.
 -- Assumes nothing.
-use mathlib.Core.Bool.{Bool, ◌&&◌, false, true}
+use mathlib.Core.Bool.{Bool, ◌&&◌, cond, false, true}
 use mathlib.Core.List.{List}
 use mathlib.Core.Option.{Option, none}
 use mathlib.Core.Path.{◌∙◌, ◌≡◌, ap, ap₂, refl, subst, sym}
@@ -8,7 +8,7 @@ use Prim.Native.Nat.{◌+◌, ◌-◌, ◌<◌, ◌≤◌, suc, zero, ℕ}
 use native.Mathlib.Numerals.{add-one}
 use native.Mathlib.Omega.{arith}
 use borrow.Author.Tests.{le-ltb, lt-leb, ltb-true}
-use lib.Dec.{leb, ltb}
+use lib.Dec.{eqb, leb, ltb}
 use lib.ListN.{set}
 use Rattle.basics.proofs.Find.{find_no}
 use Rattle.basics.specs.Find.{find}
@@ -19,6 +19,7 @@ use Rattle.frame.specs.Search.{fault_at, fault_of, late_job, owed, scan}
 use Rattle.joblist.specs.Fields.{high, ordinary}
 use Rattle.verdict.proofs.OneSlot.{runs_left}
 use Rattle.verdict.proofs.Told.{told_found, told_then}
+use Rattle.verdict.specs.Count.{entry_at}
 use Rattle.verdict.specs.FrameOf.{frame_with}
 use Rattle.verdict.specs.Inner.{Search, Steady, edge_at, square, told}
 use Rattle.verdict.specs.declared.Fault.{Fault}
@@ -28,6 +29,14 @@ use Rattle.std.specs.Prelude.{Ok, Err}
 pub more_set : (j : ℕ) (u : List ℕ) → one_more true j u ≡ set u j (units_of u j + 1)
 unfolding one_more
 more_set j u = rw (add-one (units_of u j))
+
+-- the job that the mode's table names in a slot
+pub named : (lo hi table : List ℕ) (m t j : ℕ) → table ≡ cond (eqb m 0) lo hi → j ≡ entry_at table t → j ≡ cond (eqb m 0) (entry_at lo t) (entry_at hi t)
+named lo hi table m t j p q = q ∙ ap (λ (x : List ℕ). entry_at x t) p ∙ go (eqb m 0)
+  where
+    go : (b : Bool) → entry_at (cond b lo hi) t ≡ cond b (entry_at lo t) (entry_at hi t)
+    go true = refl
+    go false = refl
 
 module _ (s : List ℕ) (n l : ℕ) (lo hi : List ℕ) (b : List Bool) (need : List ℕ) where
   abbrev F : Frame

@@ -4,8 +4,7 @@ use mathlib.Core.Bool.{Bool, ◌||◌, false, not}
 use mathlib.Core.List.{List}
 use mathlib.Core.Path.{◌∙◌, ◌≡◌, ap, refl, sym}
 use Prim.Native.Nat.{◌<◌, ◌≤◌, ℕ}
-use native.Mathlib.Omega.{arith}
-use borrow.Author.Tests.{eq-eqb, le-ltb, lt-ltb, ne_eqb}
+use borrow.Author.Tests.{eq-eqb, lt-ltb, ne_eqb}
 use lib.Dec.{eqb, ltb}
 use lib.ListN.{length}
 use Rattle.basics.specs.Chain.{◌⨾◌}
@@ -19,7 +18,6 @@ use Rattle.joblist.specs.Accepted.{Accepted}
 use Rattle.joblist.specs.Answer.{list_answer}
 use Rattle.joblist.specs.Cycle.{Named}
 use Rattle.joblist.specs.Fields.{edge_in, edges, jobs, list_bytes, slots}
-use Rattle.basics.proofs.Find.{find_start, find_from}
 use Rattle.verdict.proofs.Find.{first_none, first_some}
 use Rattle.verdict.proofs.WellFormed.{well_formed}
 use Rattle.verdict.specs.Answer.{Verdict, entry_answer, odd_entry, search_answer, tables_answer}
@@ -34,20 +32,9 @@ use Rattle.verdict.specs.declared.Objection.TheVariants.{Bad, Entry, Size}
 abbrev pub odd_test : List ℕ → ℕ → ℕ → Bool
 odd_test table n t = not (ltb (entry_at table t) n || eqb (entry_at table t) idle)
 
-pub odd_from : (table : List ℕ) (n : ℕ) → odd_entry table n ≡ find_from (odd_test table n) (length table) 0
-unfolding odd_entry
-odd_from table n = find_start (odd_test table n) (length table)
-
 module _ (j n : ℕ) where
   pub odd_job : j < n → false ≡ not (ltb j n || eqb j idle)
   odd_job a = sym (rw (lt-ltb j n a))
-
-  pub odd_other : n ≤ j → not (eqb j idle) ≡ not (ltb j n || eqb j idle)
-  odd_other a = sym (rw (le-ltb j n a))
-
--- an entry that was read
-pub odd_at : (table : List ℕ) (n t x : ℕ) → x ≡ entry_at table t → odd_test table n t ≡ not (ltb x n || eqb x idle)
-odd_at table n t x e = ap (λ (y : ℕ). not (ltb y n || eqb y idle)) (sym e)
 
 -- what a search answers, as the check's answer
 abbrev pub bad_of : Search → Verdict
@@ -98,16 +85,19 @@ module _ (s lo hi : List ℕ) (n m l : ℕ) (pn : n ≡ jobs s) (pm : m ≡ edge
           pub says : bad_of r ≡ tables_answer s lo hi
           says = ap bad_of searched ∙ bad_told (first_fault (frame_of s lo hi)) ∙ sym whole
 
-  -- what the search requires of an accepted list and tables of its length
-  abbrev pub Searchable : Type 0
-  Searchable = (n ≤ first_edition.jobs) × (l ≤ first_edition.slots) × (l ≤ length lo) × (list_bytes n m ≤ length s) × Named s n m × Rising s n
+  -- what an accepted list has that the search requires, and a table of its length
+  module _ (A : Accepted first_edition s) where
+    pub few_jobs : n ≤ first_edition.jobs
+    few_jobs = rw pn A.most_jobs
 
-  pub searchable : Accepted first_edition s → length lo ≡ l → Searchable
-  searchable A a = (
-    rw pn A.most_jobs,
-    rw pl A.most_slots,
-    omega arith,
-    rw (pn, pm) A.fits,
-    rw (pn, pm) (accepted_named first_edition s A),
-    rw pn (λ j h. (A.job j h).rising),
-  )
+    pub few_slots : l ≤ first_edition.slots
+    few_slots = rw pl A.most_slots
+
+    pub whole_list : list_bytes n m ≤ length s
+    whole_list = rw (pn, pm) A.fits
+
+    pub named_jobs : Named s n m
+    named_jobs = rw (pn, pm) (accepted_named first_edition s A)
+
+    pub rising_budgets : Rising s n
+    rising_budgets = rw pn (λ j h. (A.job j h).rising)

@@ -3,10 +3,10 @@
 use mathlib.Core.Bool.{Bool, ◌&&◌, cond, false, true}
 use mathlib.Core.List.{List, [], ◌∷◌}
 use mathlib.Core.Option.{Option, none, some}
-use mathlib.Core.Path.{◌≡◌, ap, refl, sym}
-use Prim.Native.Nat.{◌<◌, ℕ}
+use mathlib.Core.Path.{◌∙◌, ◌≡◌, ap, refl, sym}
+use Prim.Native.Nat.{◌<◌, ◌≤◌, ℕ}
 use native.Mathlib.Omega.{arith}
-use borrow.Author.Tests.{eqb-true, ne_eqb}
+use borrow.Author.Tests.{eqb-true, le-ltb, lt-ltb, ne_eqb}
 use lib.Dec.{eqb, ltb}
 use Rattle.basics.specs.Marks.{no_switch}
 use Rattle.basics.specs.Units.{units_of}
@@ -14,10 +14,12 @@ use Rattle.frame.specs.Execution.{State, state, waits_for}
 use Rattle.frame.specs.Search.{Finding, before_if, early_if, fault_of, found, late_if, late_job, nothing, or_else, owed}
 use Rattle.joblist.specs.Fields.{arrival}
 use Rattle.verdict.specs.Answer.{switch_of}
-use Rattle.verdict.specs.Inner.{Search, chain_of, late_told, named_told, square, told}
+use Rattle.verdict.specs.Inner.{Search, chain_of, first_of, square, told}
+use Rattle.verdict.proofs.Find.{first_none, first_some}
+use Rattle.frame.specs.Jobs.{Frame}
 use Rattle.verdict.specs.declared.Fault.{Fault}
 use Rattle.verdict.specs.declared.Fault.TheVariants.{Before, Early, Late}
-use Rattle.std.specs.Prelude.{Ok, Err}
+use Rattle.std.specs.Prelude.{Some, None, Ok, Err}
 
 pub told_fine : (a : Finding) → told a ≡ Ok tt → a ≡ nothing
 told_fine nothing h = refl
@@ -41,33 +43,36 @@ switch_chain x = go (eqb x no_switch) refl
 pub chain_at : (t : ℕ) → t < no_switch → t ∷ [] ≡ chain_of t
 chain_at t h = sym (ap (λ (x : Bool). cond x [] (t ∷ [])) (ne_eqb t no_switch (omega arith)))
 
--- the first that is a fault
-abbrev pub then_search : Search → Search → Search
-then_search (Ok u) r = r
-then_search (Err f) r = Err f
+-- the first fault at the opening of a slot, case by case
+module _ (s : List ℕ) (n : ℕ) (b : List Bool) (need : List ℕ) (t mode q x : ℕ) (had : List ℕ) (j : ℕ) where
+  abbrev F : Frame
+  F = square s n b
 
-pub then_fine : (a r : Search) → a ≡ Ok tt → then_search a r ≡ r
-then_fine a r p = ap (λ (z : Search). then_search z r) p
+  abbrev z : State
+  z = state mode q (chain_of x) had
 
-pub then_found : (a r : Search) (f : Fault) → a ≡ Err f → then_search a r ≡ Err f
-then_found a r f p = ap (λ (z : Search). then_search z r) p
+  abbrev here : Search
+  here = told (fault_of F (units_of need) t z j)
 
--- late before what the named job shows
-pub fault_told : (s : List ℕ) (n : ℕ) (b : List Bool) (need : List ℕ) (t mode q x : ℕ) (had : List ℕ) (j : ℕ)
-    → told (fault_of (square s n b) (units_of need) t (state mode q (chain_of x) had) j)
-    ≡ then_search (late_told t x (late_job (square s n []) (units_of need) t q had))
-    (named_told (owed (square s n []) (units_of need) mode had j) (ltb t (arrival s j)) t j x (waits_for (square [] n b) (units_of need) had j))
-unfolding fault_of named_told late_job owed waits_for
-fault_told s n b need t mode q x had j =
-    go (late_job (square s n []) (units_of need) t q had) (owed (square s n []) (units_of need) mode had j) (ltb t (arrival s j)) (waits_for (square [] n b) (units_of need) had j)
-  where
-    z : State
-    z = state mode q (chain_of x) had
+  here_is : (o : Option ℕ) (w p : Bool) (o' : Option ℕ) → late_job F (units_of need) t q had ≡ o → owed F (units_of need) mode had j ≡ w → ltb t (arrival s j) ≡ p → waits_for F (units_of need) had j ≡ o'
+      → here ≡ told (or_else (late_if t z o) (or_else (early_if t z j (w && p)) (before_if t z j w o')))
+  unfolding fault_of
+  here_is o w p o' e f g h = λ i. told (or_else (late_if t z (e i)) (or_else (early_if t z j (f i && g i)) (before_if t z j (f i) (h i))))
 
-    go : (o : Option ℕ) (w p : Bool) (o' : Option ℕ) → told (or_else (late_if t z o) (or_else (early_if t z j (w && p)) (before_if t z j w o')))
-        ≡ then_search (late_told t x o) (named_told w p t j x o')
-    go (some i) w p o' = ap (λ (y : ℕ). Err (Late t i y)) (switch_chain x)
-    go none false p o' = refl
-    go none true true o' = ap (λ (y : ℕ). Err (Early t j y)) (switch_chain x)
-    go none true false none = refl
-    go none true false (some k) = ap (λ (y : ℕ). Err (Before t j k y)) (switch_chain x)
+  pub fault_late : (i : ℕ) → first_of (late_job F (units_of need) t q had) ≡ Some i → Err (Late t i x) ≡ here
+  fault_late i h = sym (here_is (some i) _ _ _ (first_some _ i h) refl refl refl ∙ ap (λ (y : ℕ). Err (Late t i y)) (switch_chain x))
+
+  module _ (none-late : first_of (late_job F (units_of need) t q had) ≡ None) where
+    pub fault_not_owed : owed F (units_of need) mode had j ≡ false → Ok tt ≡ here
+    fault_not_owed w = sym (here_is none false _ _ (first_none _ none-late) w refl refl)
+
+    module _ (w : owed F (units_of need) mode had j ≡ true) where
+      pub fault_early : t < arrival s j → Err (Early t j x) ≡ here
+      fault_early h = sym (here_is none true true _ (first_none _ none-late) w (lt-ltb t (arrival s j) h) refl ∙ ap (λ (y : ℕ). Err (Early t j y)) (switch_chain x))
+
+      module _ (arrived : arrival s j ≤ t) where
+        pub fault_before : (p : ℕ) → first_of (waits_for F (units_of need) had j) ≡ Some p → Err (Before t j p x) ≡ here
+        fault_before p h = sym (here_is none true false (some p) (first_none _ none-late) w (le-ltb t (arrival s j) arrived) (first_some _ p h) ∙ ap (λ (y : ℕ). Err (Before t j p y)) (switch_chain x))
+
+        pub fault_none : first_of (waits_for F (units_of need) had j) ≡ None → Ok tt ≡ here
+        fault_none h = sym (here_is none true false none (first_none _ none-late) w (le-ltb t (arrival s j) arrived) (first_none _ h))

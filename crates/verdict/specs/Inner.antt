@@ -11,7 +11,6 @@ use Rattle.verdict.specs.Count.{entries_in}
 use Rattle.verdict.specs.FrameOf.{frame_with}
 use Rattle.verdict.specs.Answer.{switch_of, fault_of}
 use Rattle.verdict.specs.declared.Fault.{Fault}
-use Rattle.verdict.specs.declared.Fault.TheVariants.{Late, Early, Before}
 
 -- what a search answers: nothing, or the first fault
 abbrev pub Search : Type 0
@@ -30,20 +29,6 @@ chain_of x = cond (eqb x no_switch) [] (x ∷ [])
 abbrev pub first_of : Option ℕ → First ℕ
 first_of none = None
 first_of (some i) = Some i
-
--- late, where a job is
-abbrev pub late_told : ℕ → ℕ → Option ℕ → Search
-late_told t x none = Ok tt
-late_told t x (some j) = Err (Late t j x)
-
--- before a predecessor, where there is one
-abbrev pub before_told : ℕ → ℕ → ℕ → Option ℕ → Search
-before_told t j x none = Ok tt
-before_told t j x (some p) = Err (Before t j p x)
-
--- the named job j: owed its slot, and too early, or before a predecessor
-unfoldable pub named_told : Bool → Bool → ℕ → ℕ → ℕ → Option ℕ → Search
-named_told owed soon t j x o = cond owed (cond soon (Err (Early t j x)) (before_told t j x o)) (Ok tt)
 
 -- edges as a square of bits: in the row of q whether p comes before it
 abbrev pub pair_at : ℕ → ℕ → ℕ

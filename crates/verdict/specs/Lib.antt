@@ -4,3 +4,5 @@ pub mod Answer
 pub mod Numbers
 pub mod Demand
 pub mod Inner
+pub mod Opening
+pub mod Searched

@@ -1,6 +1,7 @@
 -- The paper's number and place of each answer of the check.
 -- Assumes nothing.
-use Rattle.std.specs.Prelude.{ℕ, Ok, Err}
+use Rattle.std.specs.Prelude.{ℕ}
+use Rattle.refusal.specs.Answer.{number_with}
 use Rattle.joblist.specs.Numbers.{number_of as list_number, place_of as list_place}
 use Rattle.joblist.specs.declared.Place.TheVariants.{Nowhere}
 use Rattle.verdict.specs.Answer.{Verdict}
@@ -33,5 +34,4 @@ place_of (Bad f) = AtFault f
 
 -- the number of an answer: 0 for yes
 abbrev pub answer_number : Verdict → ℕ
-answer_number (Ok u) = 0
-answer_number (Err w) = number_of w
+answer_number v = number_with number_of v

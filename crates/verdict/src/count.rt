@@ -1,14 +1,10 @@
 // The entries of a table: one of them, how many of a job stand before a slot, and the running form of that count.
-ghost use Rattle.std.specs.Prelude.{◌≡◌, ◌+◌, ◌<◌, ◌≤◌, min, length};
-ghost use Rattle.basics.specs.Below.{entries_before};
+ghost use Rattle.std.specs.Prelude.{◌≡◌, ◌==◌, ◌+◌, ◌<◌, length, count_by};
 ghost use Rattle.basics.specs.Limits.{first_edition};
 ghost use Rattle.verdict.specs.Count.{entry_at, entries_in, Running};
 
 use crate::IDLE;
-use joblist::{MOST_JOBS, wide};
-
-// An entry is a byte.
-const LARGEST_ENTRY: usize = 255;
+use joblist::MOST_JOBS;
 
 // The entries that are counted at a time. Their count fits a byte, so that the compiler can take many at once; it takes
 // 32, and 224 is the largest multiple of 32 whose count fits.
@@ -19,65 +15,48 @@ pub fn entry_at(table: &[u8], t: usize) -> usize
     ensures { (result ≡ entry_at table.now t) × (result < 256) }
 {
     if t < table.len() {
-        return wide(table[t]);
+        usize::from(table[t])
+    } else {
+        IDLE
     }
-    IDLE
 }
 
-// The lower of two numbers.
-pub(crate) fn lower(a: usize, b: usize) -> usize
-    ensures { result ≡ min a b }
+// How many of a few entries are this one; they are so few that their count fits a byte.
+fn entries_of(entry: u8, few: &[u8]) -> usize
+    requires { length few.now < 256 }
+    ensures { result ≡ count_by (λ x. x == entry) few.now }
 {
-    if a < b {
-        return a;
-    }
-    b
-}
-
-// How many of the entries from one slot to another name a job; they are so few that their count fits a byte.
-fn entries_within(table: &[u8], job: usize, from: usize, to: usize) -> usize
-    requires { (from ≤ to) × (to ≤ length table.now) × (to < from + 256) }
-    ensures { result + entries_before (entry_at table.now) job from ≡ entries_before (entry_at table.now) job to }
-{
-    if LARGEST_ENTRY < job {
-        return 0;
-    }
-    let entry = job as u8;
     let mut count: u8 = 0;
-    for t in from..to {
-        if table[t] == entry {
+    for &other in few {
+        if other == entry {
             count += 1;
         }
     }
-    wide(count)
+    usize::from(count)
 }
 
-// How many of the entries before `end` name a job: block after block, and what is left.
-#[tactic(auto, using(basics::proofs::Below::entries_zero, crate::proofs::Entries::entries_most))]
-fn entries_by_block(table: &[u8], job: usize, end: usize) -> usize
-    requires { end ≤ length table.now }
-    ensures { result ≡ entries_before (entry_at table.now) job end }
+// How many of the entries are this one: block after block, and what is left.
+fn entries_by_block(entry: u8, table: &[u8]) -> usize
+    ensures { result ≡ count_by (λ x. x == entry) table.now }
 {
-    let mut count: usize = 0;
-    let mut from: usize = 0;
-    while BLOCK <= end - from {
-        count += entries_within(table, job, from, from + BLOCK);
-        from += BLOCK;
+    let mut count = 0;
+    let mut rest = table;
+    while BLOCK < rest.len() {
+        let (block, others) = rest.split_at(BLOCK);
+        count += entries_of(entry, block);
+        rest = others;
     }
-    count + entries_within(table, job, from, end)
+    count + entries_of(entry, rest)
 }
 
 // How many entries of a job stand in a table before a slot: the one home of the question.
-#[tactic(auto, using(basics::proofs::Below::entries_zero), unfolding(crate::specs::Count::entries_in))]
 pub fn entries_before(table: &[u8], job: usize, slot: usize) -> usize
     ensures { result ≡ entries_in table.now job slot }
 {
-    let end = lower(slot, table.len());
-    // so few are one block, and are spared the loop over blocks
-    if end <= BLOCK {
-        return entries_within(table, job, 0, end);
-    }
-    entries_by_block(table, job, end)
+    let Ok(entry) = u8::try_from(job) else {
+        return 0;
+    };
+    entries_by_block(entry, &table[..slot.min(table.len())])
 }
 
 // The running form of the same count: of each job its entries before slot t, moved on past the entry in it. Idle is no job, and neither is what is read past the table's end: that changes nothing.
@@ -87,7 +66,7 @@ pub(crate) fn move_on(counts: &mut [usize; MOST_JOBS], table: &[u8], t: usize)
 {
     let j = entry_at(table, t);
     if j < MOST_JOBS {
-        counts[j] = counts[j] + 1;
+        counts[j] += 1;
     }
 }
 

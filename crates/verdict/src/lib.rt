@@ -8,11 +8,15 @@ ghost use Rattle.joblist.specs.Answer.{list_answer};
 ghost use Rattle.verdict.specs.Answer.{odd_entry, tables_answer, check_of};
 ghost use Rattle.verdict.specs.Inner.{first_of};
 ghost use Rattle.verdict.specs.Numbers.{fault_number, number_of, place_of, answer_number};
+ghost use Rattle.verdict.specs.declared.Spot.TheVariants.{InList, AtFault};
+ghost use Rattle.joblist.specs.declared.Place.TheVariants.{Nowhere};
 
 use joblist::{MOST_JOBS, Place, Table, Why};
+use refusal::Refusal;
 
 pub mod count;
 mod faults;
+mod jobs;
 mod slot;
 
 // The idle mark, as wide as an entry is read.
@@ -64,75 +68,103 @@ pub enum Spot {
     AtFault(Fault),
 }
 
-// The paper's number of a fault.
+impl Refusal for Fault {
+    type Place = Spot;
+
+    ghost number = { fault_number };
+
+    ghost place = { AtFault };
+
+    ghost nowhere = { InList Nowhere };
+
+    fn number(self) -> usize {
+        match self {
+            Fault::Late(_, _, _) => 10,
+            Fault::Early(_, _, _) => 11,
+            Fault::Before(_, _, _, _) => 12,
+        }
+    }
+
+    fn place(self) -> Spot {
+        Spot::AtFault(self)
+    }
+
+    fn nowhere() -> Spot {
+        Spot::InList(Place::Nowhere)
+    }
+}
+
+impl Refusal for Objection {
+    type Place = Spot;
+
+    ghost number = { number_of };
+
+    ghost place = { place_of };
+
+    ghost nowhere = { InList Nowhere };
+
+    fn number(self) -> usize {
+        match self {
+            Objection::OfList(w) => w.number(),
+            Objection::Size => 43,
+            Objection::Entry(_) => 45,
+            Objection::Bad(f) => f.number(),
+        }
+    }
+
+    fn place(self) -> Spot {
+        match self {
+            Objection::OfList(w) => Spot::InList(w.place()),
+            Objection::Size => Spot::InList(Place::Nowhere),
+            Objection::Entry(t) => Spot::AtSlot(t),
+            Objection::Bad(f) => f.place(),
+        }
+    }
+
+    fn nowhere() -> Spot {
+        Spot::InList(Place::Nowhere)
+    }
+}
+
+// The number of a fault, for callers that do not name the trait.
 pub fn fault_number(f: Fault) -> usize
     ensures { result ≡ fault_number f }
 {
-    match f {
-        Fault::Late(_, _, _) => 10,
-        Fault::Early(_, _, _) => 11,
-        Fault::Before(_, _, _, _) => 12,
-    }
+    f.number()
 }
 
-// The paper's number of an objection.
 pub fn number_of(w: Objection) -> usize
     ensures { result ≡ number_of w }
 {
-    match w {
-        Objection::OfList(y) => joblist::number_of(y),
-        Objection::Size => 43,
-        Objection::Entry(_) => 45,
-        Objection::Bad(f) => fault_number(f),
-    }
+    w.number()
 }
 
-// The paper's place of an objection.
 pub fn place_of(w: Objection) -> Spot
     ensures { result ≡ place_of w }
 {
-    match w {
-        Objection::OfList(y) => Spot::InList(joblist::place_of(y)),
-        Objection::Size => Spot::InList(Place::Nowhere),
-        Objection::Entry(t) => Spot::AtSlot(t),
-        Objection::Bad(f) => Spot::AtFault(f),
-    }
+    w.place()
 }
 
-// The number of an answer: 0 for yes.
 pub fn answer_number(v: Verdict) -> usize
     ensures { result ≡ answer_number v }
 {
-    match v {
-        Ok(()) => 0,
-        Err(w) => number_of(w),
-    }
+    refusal::answer_number(v)
 }
 
 // Whether an entry is neither idle nor one of n jobs.
 fn is_odd(j: usize, n: usize) -> bool
     ensures { result ≡ not (ltb j n || eqb j idle) }
 {
-    if j < n {
-        return false;
-    }
-    j != IDLE
+    n <= j && j != IDLE
 }
 
 // The first entry of a table that is neither idle nor a job.
 fn first_odd(table: &[u8], n: usize) -> Option<usize>
     ensures { result ≡ first_of (odd_entry table.now n) }
 {
-    let mut t: usize = 0;
-    loop {
-        if table.len() <= t {
-            break None;
-        }
-        if is_odd(count::entry_at(table, t), n) {
-            break Some(t);
-        }
-        t += 1;
-    }
+    table
+        .iter()
+        .position(|&entry| is_odd(usize::from(entry), n))
 }
 
 // The two tables of a good list.
@@ -155,7 +187,7 @@ fn check_tables(list: &[u8], lo: &[u8], hi: &[u8]) -> Verdict
     if let Some(t) = first_odd(hi, n) {
         return Err(Objection::Entry(t));
     }
-    faults::search_tables(list, n, m, l, lo, hi).map_err(Objection::Bad)
+    faults::search_tables(list, lo, hi, n, m, l).map_err(Objection::Bad)
 }
 
 // The check of a list and two tables.

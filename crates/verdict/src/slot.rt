@@ -1,171 +1,103 @@
 // What one slot shows: the fault at its opening, and whether the named job runs in it. All of it is inner.
-// Throughout: had and need are the units of each job, q is the mode of the slot before, and x the switch slot.
-ghost use Rattle.std.specs.Prelude.{◌≡◌, [], true, ◌&&◌, ◌+◌, ◌<◌, ◌≤◌, length, eqb, leb, ltb};
+ghost use Rattle.std.specs.Prelude.{◌≡◌, true, ◌&&◌, ◌<◌, eqb, leb, ltb};
 ghost use Rattle.basics.specs.Limits.{first_edition};
 ghost use Rattle.basics.specs.Units.{units_of};
-ghost use Rattle.joblist.specs.Fields.{job_at, job_bytes, arrival, deadline, level};
-ghost use Rattle.frame.specs.Execution.{state, runs, waits_for};
+ghost use Rattle.joblist.specs.Fields.{arrival, deadline, level};
+ghost use Rattle.frame.specs.Execution.{runs, waits_for};
 ghost use Rattle.frame.specs.Search.{late_job, owed, fault_of};
-ghost use Rattle.verdict.specs.Inner.{square, chain_of, told, first_of, late_told, named_told};
+ghost use Rattle.verdict.specs.Inner.{told, first_of};
 
-use crate::{Fault, PAIRS};
+use crate::Fault;
+use crate::jobs::Jobs;
 use joblist::{MOST_JOBS, arrival_of, deadline_of, level_of};
 
-// Whether job i has its deadline at t, counts and is unfinished.
-fn is_late(list: &[u8], i: usize, had: usize, need: usize, t: usize, q: usize) -> bool
-    requires { job_at i + job_bytes ≤ length list.now }
-    ensures { result ≡ (eqb (deadline list.now i) t && (leb q (level list.now i) && ltb had need)) }
-{
-    if deadline_of(list, i) != t {
-        return false;
-    }
-    if level_of(list, i) < q {
-        return false;
-    }
-    had < need
+// A slot at its opening: the units that each job has had and those that it needs, the mode, that of the slot before, and the switch slot.
+#[derive(Clone, Copy)]
+pub(crate) struct Opening<'a> {
+    pub(crate) jobs: Jobs<'a>,
+    pub(crate) had: &'a [usize; MOST_JOBS],
+    pub(crate) need: &'a [usize; MOST_JOBS],
+    pub(crate) slot: usize,
+    pub(crate) mode: usize,
+    pub(crate) mode_before: usize,
+    pub(crate) switch: usize,
 }
 
-// The lowest job that is late at t.
-fn late_at(
-    list: &[u8],
-    n: usize,
-    had: &[usize; MOST_JOBS],
-    need: &[usize; MOST_JOBS],
-    t: usize,
-    q: usize,
-    x: usize,
-) -> Result<(), Fault>
-    requires { (n ≤ first_edition.jobs) × (job_at n ≤ length list.now) }
-    ensures { result ≡ late_told t x (late_job (square list.now n []) (units_of need.now) t q had.now) }
-{
-    let mut i: usize = 0;
-    loop {
-        if n <= i {
-            break Ok(());
+impl Opening<'_> {
+    ghost use Rattle.verdict.specs.Opening.{frame_at, need_at, state_at};
+
+    // Whether job i is unfinished.
+    fn is_open(&self, i: usize) -> bool
+        requires { i < self.now.jobs.count }
+        ensures { result ≡ ltb (units_of self.now.had.now i) (need_at self.now i) }
+    {
+        self.had[i] < self.need[i]
+    }
+
+    // Whether job i has its deadline here, counts and is unfinished.
+    fn is_late(&self, i: usize) -> bool
+        requires { i < self.now.jobs.count }
+        ensures { result ≡ (eqb (deadline self.now.jobs.list.now i) self.now.slot && (leb self.now.mode_before (level self.now.jobs.list.now i) && ltb (units_of self.now.had.now i) (need_at self.now i))) }
+    {
+        deadline_of(self.jobs.list, i) == self.slot
+            && self.mode_before <= level_of(self.jobs.list, i)
+            && self.is_open(i)
+    }
+
+    // The lowest job that is late.
+    fn late_job(&self) -> Option<usize>
+        ensures { result ≡ first_of (late_job (frame_at self.now) (need_at self.now) self.now.slot self.now.mode_before self.now.had.now) }
+    {
+        (0..self.jobs.count).find(|&i| self.is_late(i))
+    }
+
+    // The lowest predecessor of j that is unfinished.
+    fn waits_for(&self, j: usize) -> Option<usize>
+        requires { j < first_edition.jobs }
+        ensures { result ≡ first_of (waits_for (frame_at self.now) (need_at self.now) self.now.had.now j) }
+    {
+        (0..self.jobs.count).find(|&p| self.jobs.before[MOST_JOBS * j + p] && self.is_open(p))
+    }
+
+    // Whether the mode owes the slot to j, which is then a job.
+    #[tactic(auto, unfolding(frame::specs::Search::owed))]
+    fn is_owed(&self, j: usize) -> bool
+        ensures job { result ≡ true → j < self.now.jobs.count }
+        ensures owed { result ≡ owed (frame_at self.now) (need_at self.now) self.now.mode self.now.had.now j }
+    {
+        j < self.jobs.count && self.mode <= level_of(self.jobs.list, j) && self.is_open(j)
+    }
+
+    // The first fault, where j is named: a late job, or j too early or before a predecessor.
+    pub(crate) fn fault_at(&self, j: usize) -> Result<(), Fault>
+        ensures { result ≡ told (fault_of (frame_at self.now) (need_at self.now) self.now.slot (state_at self.now) j) }
+    {
+        if let Some(i) = self.late_job() {
+            return Err(Fault::Late(self.slot, i, self.switch));
         }
-        if is_late(list, i, had[i], need[i], t, q) {
-            break Err(Fault::Late(t, i, x));
+        if !self.is_owed(j) {
+            return Ok(());
         }
-        i += 1;
-    }
-}
-
-// Whether a predecessor is unfinished.
-fn is_open(edge: bool, had: usize, need: usize) -> bool
-    ensures { result ≡ (edge && ltb had need) }
-{
-    if edge {
-        return had < need;
-    }
-    false
-}
-
-// The lowest predecessor of j that is unfinished.
-fn waits_for(
-    n: usize,
-    before: &[bool; PAIRS],
-    had: &[usize; MOST_JOBS],
-    need: &[usize; MOST_JOBS],
-    j: usize,
-) -> Option<usize>
-    requires { (n ≤ first_edition.jobs) × (j < first_edition.jobs) }
-    ensures { result ≡ first_of (waits_for (square [] n before.now) (units_of need.now) had.now j) }
-{
-    let mut p: usize = 0;
-    loop {
-        if n <= p {
-            break None;
+        if self.slot < arrival_of(self.jobs.list, j) {
+            return Err(Fault::Early(self.slot, j, self.switch));
         }
-        if is_open(before[MOST_JOBS * j + p], had[p], need[p]) {
-            break Some(p);
+        match self.waits_for(j) {
+            Some(p) => Err(Fault::Before(self.slot, j, p, self.switch)),
+            None => Ok(()),
         }
-        p += 1;
     }
-}
 
-// The named job j: too early, or before a predecessor.
-#[tactic(auto, using(crate::proofs::Find::first_none, crate::proofs::Find::first_some), unfolding(frame::specs::Search::owed, crate::specs::Inner::named_told))]
-fn named_fault(
-    list: &[u8],
-    n: usize,
-    before: &[bool; PAIRS],
-    had: &[usize; MOST_JOBS],
-    need: &[usize; MOST_JOBS],
-    t: usize,
-    mode: usize,
-    j: usize,
-    x: usize,
-) -> Result<(), Fault>
-    requires { (n ≤ first_edition.jobs) × (job_at n ≤ length list.now) }
-    ensures { result ≡ named_told (owed (square list.now n []) (units_of need.now) mode had.now j) (ltb t (arrival list.now j)) t j x (waits_for (square [] n before.now) (units_of need.now) had.now j) }
-{
-    if n <= j {
-        return Ok(());
+    // Whether the named job j runs; one that does is a job, and has units left.
+    #[tactic(auto, using(crate::proofs::Find::none_is), unfolding(frame::specs::Execution::runs, frame::specs::Execution::ready))]
+    pub(crate) fn runs_at(&self, j: usize) -> bool
+        ensures runs { result ≡ runs (frame_at self.now) (need_at self.now) self.now.slot self.now.mode self.now.had.now j }
+        ensures left { result ≡ true → (j < self.now.jobs.count) × (units_of self.now.had.now j < need_at self.now j) }
+    {
+        j < self.jobs.count
+            && self.is_open(j)
+            && (self.mode <= level_of(self.jobs.list, j)
+                || (arrival_of(self.jobs.list, j) <= self.slot
+                    && self.slot < deadline_of(self.jobs.list, j)
+                    && self.waits_for(j).is_none()))
     }
-    if level_of(list, j) < mode {
-        return Ok(());
-    }
-    if need[j] <= had[j] {
-        return Ok(());
-    }
-    if t < arrival_of(list, j) {
-        return Err(Fault::Early(t, j, x));
-    }
-    let Some(p) = waits_for(n, before, had, need, j) else {
-        return Ok(());
-    };
-    Err(Fault::Before(t, j, p, x))
-}
-
-// The first fault at the opening of slot t, where j is named.
-pub(crate) fn fault_at(
-    list: &[u8],
-    n: usize,
-    before: &[bool; PAIRS],
-    had: &[usize; MOST_JOBS],
-    need: &[usize; MOST_JOBS],
-    t: usize,
-    mode: usize,
-    q: usize,
-    j: usize,
-    x: usize,
-) -> Result<(), Fault>
-    requires { (n ≤ first_edition.jobs) × (job_at n ≤ length list.now) }
-    ensures { result ≡ told (fault_of (square list.now n before.now) (units_of need.now) t (state mode q (chain_of x) had.now) j) }
-{
-    late_at(list, n, had, need, t, q, x)?;
-    named_fault(list, n, before, had, need, t, mode, j, x)
-}
-
-// Whether the job j, named in slot t, runs; one that does is a job, and has units left.
-#[tactic(auto, using(crate::proofs::Named::waits_none, crate::proofs::Named::waits_some), unfolding(frame::specs::Execution::runs, frame::specs::Execution::ready))]
-pub(crate) fn runs_at(
-    list: &[u8],
-    n: usize,
-    before: &[bool; PAIRS],
-    had: &[usize; MOST_JOBS],
-    need: &[usize; MOST_JOBS],
-    t: usize,
-    mode: usize,
-    j: usize,
-) -> bool
-    requires { (n ≤ first_edition.jobs) × (job_at n ≤ length list.now) }
-    ensures { (result ≡ runs (square list.now n before.now) (units_of need.now) t mode had.now j) × (result ≡ true → (j < n) × (units_of had.now j < units_of need.now j)) }
-{
-    if n <= j {
-        return false;
-    }
-    if need[j] <= had[j] {
-        return false;
-    }
-    if mode <= level_of(list, j) {
-        return true;
-    }
-    if t < arrival_of(list, j) {
-        return false;
-    }
-    if deadline_of(list, j) <= t {
-        return false;
-    }
-    waits_for(n, before, had, need, j).is_none()
 }

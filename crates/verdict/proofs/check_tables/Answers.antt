@@ -3,7 +3,7 @@
 use Rattle.std.proofs.Common.{◌∙◌, sym, arith}
 use Rattle.basics.specs.Limits.{first_edition}
 use Rattle.joblist.proofs.Accepted.{accepted}
-use Rattle.verdict.proofs.Tables.{entry_hi, bad_is, entry_lo, says, searchable, size_hi, size_lo}
+use Rattle.verdict.proofs.Tables.{entry_hi, bad_is, entry_lo, few_jobs, few_slots, named_jobs, rising_budgets, says, size_hi, size_lo, whole_list}
 use Rattle.verdict.proofs.check_tables.Goals as goal
 
 pub jobs_of-n-requires : goal.jobs_of-n-requires
@@ -53,7 +53,15 @@ search_tables-requires c =
     let n = c.jobs_of-n in
     let m = c.edges_of-m in
     let l = c.slots_of-l in
-    searchable a.list.now a.lo.now a.hi.now n.result m.result l.result n.ensures.0 m.ensures.0 l.ensures.0 (accepted first_edition a.list.now c.requires) c.if-lo-l.false
+    let A = accepted first_edition a.list.now c.requires in
+    record {
+      jobs = few_jobs a.list.now a.lo.now a.hi.now n.result m.result l.result n.ensures.0 m.ensures.0 l.ensures.0 A;
+      slots = few_slots a.list.now a.lo.now a.hi.now n.result m.result l.result n.ensures.0 m.ensures.0 l.ensures.0 A;
+      covered = omega arith;
+      whole = whole_list a.list.now a.lo.now a.hi.now n.result m.result l.result n.ensures.0 m.ensures.0 l.ensures.0 A;
+      named = named_jobs a.list.now a.lo.now a.hi.now n.result m.result l.result n.ensures.0 m.ensures.0 l.ensures.0 A;
+      rising = rising_budgets a.list.now a.lo.now a.hi.now n.result m.result l.result n.ensures.0 m.ensures.0 l.ensures.0 A;
+    }
 
 pub returns : goal.returns
 returns c =

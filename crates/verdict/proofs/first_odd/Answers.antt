@@ -1,30 +1,15 @@
--- One entry on, the end, and the entry that is odd.
+-- A search of the table's entries.
 -- Assumes nothing.
-use Rattle.std.proofs.Common.{◌∙◌, ap, length, sym, arith}
-use Rattle.basics.proofs.Find.{find_end, find_here, find_on}
-use Rattle.verdict.proofs.Tables.{odd_at, odd_from, odd_test}
-use Rattle.verdict.specs.Inner.{first_of}
+use Rattle.std.proofs.Common.{rules, tests, ◌||◌, eqb, ltb, not}
+use Rattle.std.proofs.lemmas.Iterator.{YieldsList-from_slice}
+use Rattle.std.proofs.lemmas.Iterator.Search.{position_from_yields_List}
+use Rattle.basics.specs.Marks.{idle}
+use Rattle.verdict.proofs.Find.{first_entry}
+use Rattle.verdict.specs.Answer.{odd_entry}
 use Rattle.verdict.proofs.first_odd.Goals as goal
 
-pub loop-t-init : goal.loop-t-init
-loop-t-init c = let a = c.args in (omega arith, odd_from a.table.now a.n)
-
-pub loop-t-preserved : goal.loop-t-preserved
-loop-t-preserved c =
+pub returns : goal.returns
+unfolding odd_entry
+returns c =
     let a = c.args in
-    let l = c.loop-t in
-    let e = c.entry_at in
-    (omega arith, l.invariant.1 ∙ find_on (odd_test a.table.now a.n) (length a.table.now) l.t c.if-table-t.false (odd_at a.table.now a.n l.t e.result e.ensures.0 ∙ sym c.if-is_odd.ensures))
-
-pub returns-then-table-t : goal.returns-then-table-t
-returns-then-table-t c =
-    let a = c.args in
-    let l = c.loop-t in
-    sym (ap first_of (l.invariant.1 ∙ find_end (odd_test a.table.now a.n) (length a.table.now) l.t c.if-table-t.true))
-
-pub returns-then-is_odd : goal.returns-then-is_odd
-returns-then-is_odd c =
-    let a = c.args in
-    let l = c.loop-t in
-    let e = c.entry_at in
-    sym (ap first_of (l.invariant.1 ∙ find_here (odd_test a.table.now a.n) (length a.table.now) l.t c.if-table-t.false (odd_at a.table.now a.n l.t e.result e.ensures.0 ∙ sym c.if-is_odd.ensures)))
+    first_entry (λ x. not (ltb x a.n || eqb x idle)) idle a.table.now c.position.result (position_from_yields_List (λ x. not (ltb x a.n || eqb x idle)) _ _ c.position.result c.position.ensures.ran (YieldsList-from_slice a.table.now cc) (λ x b q k. search (rules, tests)))

@@ -1,12 +1,10 @@
--- The count of the blocks so far.
+-- The count of the blocks so far, and what is left.
 -- Assumes nothing.
-use Rattle.std.proofs.Common.{◌≡◌, ◌-◌, ◌≤◌}
-use Rattle.basics.specs.Below.{entries_before}
-use Rattle.verdict.specs.Count.{entry_at}
+use Rattle.std.proofs.Common.{◌≡◌, ◌+◌, count_by, eqb, length}
 use Rattle.verdict.proofs.count.entries_by_block.Given as goal
 
-abbrev pub invariant-loop-from : goal.invariant-loop-from
-invariant-loop-from l = (l.from ≤ l.end) × (l.count ≡ entries_before (entry_at l.table) l.job l.from)
+abbrev pub invariant-loop-rest : goal.invariant-loop-rest
+invariant-loop-rest l = l.count + count_by (λ x. eqb x l.entry) l.rest ≡ count_by (λ x. eqb x l.entry) l.table
 
-abbrev pub decreases-loop-from : goal.decreases-loop-from
-decreases-loop-from l = l.end - l.from
+abbrev pub decreases-loop-rest : goal.decreases-loop-rest
+decreases-loop-rest l = length l.rest
