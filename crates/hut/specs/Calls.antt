@@ -1,6 +1,6 @@
 -- The answer of each call, by the called crate's own number and place.
 -- Assumes nothing.
-use Rattle.std.specs.Prelude.{ℕ, List, Result, Ok, Err}
+use Rattle.std.specs.Prelude.{ℕ, Result, Ok, Err}
 use Rattle.verdict.specs.Answer.{Verdict}
 use Rattle.verdict.specs.Numbers.{answer_number}
 use Rattle.planfile.specs.Numbers.{read_number, read_place, wrote_number, wrote_place}
@@ -13,12 +13,9 @@ use Rattle.machine.specs.Numbers.{answer_number as step_number, answer_place as 
 use Rattle.machine.specs.declared.answer.Why.{Why as StepWhy}
 use Rattle.dispatch.specs.declared.open.Opened.{Opened}
 use Rattle.dispatch.specs.declared.state.State.{State}
-use Rattle.machine.specs.Run.{Run, joined}
-use Rattle.machine.specs.Machine.{Ran}
 use Rattle.hut.specs.declared.Answer.{Answer}
 use Rattle.hut.specs.declared.ReadResult.{ReadResult}
 use Rattle.hut.specs.declared.Running.{Running}
-use Rattle.hut.specs.declared.Moved.{Moved}
 use Rattle.hut.specs.Answer.{absent, list_place, spot_place, verdict_place, build_place, says, brought}
 
 -- the check
@@ -53,17 +50,6 @@ step_answer a = record { number = step_number a; place = list_place (step_place 
 -- an answer beside a state
 abbrev pub beside : Answer → State → Running
 beside a s = record { answer = a; state = s; rest = 0 }
-
--- a step's answer, as C is handed it, beside the run that it leaves
-pub record Answered : Type 0 where
-  pub answer : Answer
-  pub run : Run
-
-abbrev pub moved : Moved → List ℕ → List ℕ → List ℕ → Answered
-moved r u d c = record { answer = r.answer; run = joined r.head u d c }
-
-unfoldable pub answered : Ran → Answered
-answered x = record { answer = step_answer x.answer; run = x.run }
 
 -- opening: the reader's answer beside the state
 unfoldable pub opened : Opened → Running

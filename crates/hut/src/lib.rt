@@ -10,21 +10,16 @@ ghost use Rattle.planlog.specs.Answer.{append_of, appended_store};
 ghost use Rattle.planlog.specs.Writes.{nth_write};
 ghost use Rattle.merge.specs.Build.{build_of, out_after as built_into};
 ghost use Rattle.parts.specs.Marks.{is_set};
-ghost use Rattle.parts.specs.Plan.{plan_with};
-ghost use Rattle.machine.specs.Run.{joined};
-ghost use Rattle.machine.specs.Machine.{step_on};
 ghost use Rattle.dispatch.specs.State.{step_of};
 ghost use Rattle.dispatch.specs.Open.{open_of};
-ghost use Rattle.hut.specs.Calls.{check_answer, read_result, write_answer, build_answer, step_answer, moved, answered, opened};
+ghost use Rattle.hut.specs.Calls.{check_answer, read_result, write_answer, build_answer, step_answer, opened};
 ghost use Rattle.hut.specs.Why.{why_answer, why_needs};
 ghost use Rattle.hut.specs.Log.{append_answer, found_answer, log_byte};
 
 use dispatch::state::State;
 use joblist::MOST_JOBS;
-use machine::head::Head;
 use machine::step;
-use parts::lent::{Marks, PlanParts};
-use parts::plan::{Counts, ENDS, ENTRIES, JOBS};
+use parts::lent::Marks;
 
 mod answers;
 mod log;
@@ -68,14 +63,6 @@ pub struct Running {
     pub answer: Answer,
     pub state: State,
     pub rest: u16,
-}
-
-// A step's answer beside the head that it leaves.
-#[repr(C)]
-#[derive(Clone, Copy)]
-pub struct Moved {
-    pub answer: Answer,
-    pub head: Head,
 }
 
 // What the log answers: on yes where the plan begins in the store, and its bytes.
@@ -148,54 +135,19 @@ pub extern "C" fn hut_open(plan: &[u8], first: u16) -> Running
     }
 }
 
-// Inner: one step over a state's parts, its arrays lent and its head by value. An end is signalled by any mark but 0.
-pub fn step_parts<'a, 'b>(
-    counts: Counts,
-    jobs: &'a [u16; JOBS],
-    edges: &'a [u8; ENDS],
-    tables: &'a [u8; ENTRIES],
-    head: Head,
-    units: &'b mut [u16; MOST_JOBS],
-    done: &'b mut [u8; MOST_JOBS],
-    cut: &'b mut [u8; MOST_JOBS],
-    tick: u16,
-    ended: u8,
-) -> Moved
-    ensures { moved result units.new done.new cut.new ≡ answered (step_on first_edition (plan_with counts jobs.now edges.now tables.now) (joined head units.old done.old cut.old) tick (is_set ended)) }
-{
-    let plan = PlanParts {
-        counts,
-        jobs,
-        edges,
-        tables,
-    };
-    let mut marks = Marks { units, done, cut };
-    let t = step::step(plan, head, &mut marks, tick, ended != 0);
-    Moved {
-        answer: t.answer.into(),
-        head: t.head,
-    }
-}
-
-// One step of the state that C keeps, in its place: no array is copied.
+// One step of the state that C keeps, in its place: no array is copied. An end is signalled by any mark but 0.
 #[unsafe(no_mangle)]
 pub extern "C" fn hut_step(s: &mut State, tick: u16, ended: u8) -> Answer
     ensures { (result ≡ step_answer (step_of first_edition s.old tick (is_set ended)).answer) × (s.new ≡ (step_of first_edition s.old tick (is_set ended)).state) }
 {
-    let o = step_parts(
-        s.plan.counts,
-        &s.plan.jobs,
-        &s.plan.edges,
-        &s.plan.tables,
-        s.head,
-        &mut s.units,
-        &mut s.done,
-        &mut s.cut,
-        tick,
-        ended,
-    );
-    s.head = o.head;
-    o.answer
+    let mut marks = Marks {
+        units: &mut s.units,
+        done: &mut s.done,
+        cut: &mut s.cut,
+    };
+    let turned = step::step(s.plan.parts(), s.head, &mut marks, tick, ended != 0);
+    s.head = turned.head;
+    turned.answer.into()
 }
 
 // The check, and behind a fault what each job needs in an execution that goes wrong as it says: every entry of `needs`.
