@@ -53,8 +53,8 @@ fn reply_list(page: Page, list: &[u8]) -> Page {
 // The write into lent bytes, and all of them afterwards.
 fn write_into(page: Page, list: &[u8], lo: &[u8], hi: &[u8], lent: &mut [u8]) -> Page {
     let w = call::write(list, lo, hi, lent);
-    let next = page.number(planfile::wrote_number(w));
-    put_bytes(put_spot(next, planfile::wrote_place(w)), b" out=", lent)
+    let next = page.number(refusal::answer_number(w));
+    put_bytes(put_spot(next, refusal::answer_place(w)), b" out=", lent)
 }
 
 fn reply_write(page: Page, list: &[u8], lo: &[u8], hi: &[u8], n: usize) -> Page {
@@ -88,9 +88,9 @@ fn put_plan(page: Page, plan: &[u8]) -> Page {
 
 fn reply_read(page: Page, plan: &[u8]) -> Page {
     let a = call::read(plan);
-    let next = page.number(planfile::read_number(a));
+    let next = page.number(refusal::answer_number(a));
     match a {
-        Err(w) => put_spot(next, planfile::read_why_place(w)),
+        Err(w) => put_spot(next, w.place()),
         Ok(_) => put_plan(next, plan),
     }
 }
@@ -104,8 +104,8 @@ fn reply_open(mut d: Desk, plan: &[u8], first: usize) -> Desk {
     let o = call::open(plan, first);
     let a = o.answer;
     d.page = put_spot(
-        d.page.number(planfile::read_number(a)),
-        planfile::read_place(a),
+        d.page.number(refusal::answer_number(a)),
+        refusal::answer_place(a),
     );
     d.stated(o.state)
 }

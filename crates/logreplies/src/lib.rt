@@ -52,8 +52,8 @@ fn put_start(page: Page, start: usize) -> Page {
 
 fn put_appended(page: Page, a: Result<usize, AppendWhy>) -> Page {
     let next = put_spot(
-        page.number(planlog::append_number(a)),
-        planlog::append_place(a),
+        page.number(refusal::answer_number(a)),
+        refusal::answer_place(a),
     );
     match a {
         Ok(start) => put_start(next, start),
@@ -67,7 +67,7 @@ fn put_newest(page: Page, p: Span) -> Page {
 
 fn reply_newest(page: Page, store: &[u8]) -> Page {
     let f = call::newest(store);
-    let next = page.number(logwalk::found_number(f));
+    let next = page.number(refusal::answer_number(f));
     match f {
         Ok(p) => put_newest(next, p),
         Err(_) => next,
@@ -90,7 +90,7 @@ fn put_earlier(start: Page, store: &[u8], place: usize) -> Page {
 
 fn reply_listed(page: Page, store: &[u8]) -> Page {
     let f = call::newest(store);
-    let next = page.number(logwalk::found_number(f));
+    let next = page.number(refusal::answer_number(f));
     match f {
         Ok(p) => put_earlier(put_start(next, p.start), store, p.start),
         Err(_) => next,

@@ -1,14 +1,13 @@
 // What is said of a log, on a page.
 #![tactic(auto)]
 
-use joblist::Place;
 use jobtext::{Names, list};
 use logwalk::{FindWhy, STORE_MOST, Span};
 use page::{Page, less, plus};
 use planlog::AppendWhy;
 use plans::list_of;
+use refusal::Refusal;
 use text::part;
-use verdict::Spot;
 use words::label;
 
 pub fn end_of(s: Span) -> usize {
@@ -22,13 +21,13 @@ pub fn plan_at(store: &[u8], s: Span) -> &[u8] {
 
 // Why no plan was found.
 pub fn put_not_found(page: Page, w: FindWhy) -> Page {
-    let no = words::at_spot(logwalk::find_why_number(w), Spot::InList(Place::Nowhere));
+    let no = words::at_spot(w.number(), w.place());
     words::tell(page, b"", &Names::none(), no)
 }
 
 // Why a plan was not appended.
 pub fn put_refused(page: Page, plan: &[u8], w: AppendWhy) -> Page {
-    let no = words::at_spot(planlog::append_why_number(w), planlog::append_why_place(w));
+    let no = words::at_spot(w.number(), w.place());
     words::tell(page, list_of(plan), &Names::none(), no)
 }
 

@@ -5,9 +5,14 @@ ghost use Rattle.std.specs.Prelude.{◌≡◌, ◌≤◌, length, IfSome};
 ghost use Rattle.basics.specs.Limits.{first_edition};
 ghost use Rattle.logwalk.specs.Walk.{whole_at, last_plan, walk, end_of};
 ghost use Rattle.logwalk.specs.Answer.{newest_of, plan_before, previous_of};
-ghost use Rattle.logwalk.specs.Numbers.{find_why_number, found_number};
+ghost use Rattle.logwalk.specs.Numbers.{find_why_number, find_why_place};
+ghost use Rattle.verdict.specs.declared.Spot.TheVariants.{InList};
+ghost use Rattle.joblist.specs.declared.Place.TheVariants.{Nowhere};
 
+use joblist::Place;
 use planfile::{Counted, TRAILER_BYTES};
+use refusal::Refusal;
+use verdict::Spot;
 
 // No store is larger: 64 KiB.
 pub const STORE_MOST: usize = 65536;
@@ -26,23 +31,28 @@ pub enum FindWhy {
     Empty,
 }
 
-// The paper's number where no plan was found.
-pub fn find_why_number(w: FindWhy) -> usize
-    ensures { result ≡ find_why_number w }
-{
-    match w {
-        FindWhy::Large => 52,
-        FindWhy::Empty => 51,
-    }
-}
+impl Refusal for FindWhy {
+    type Place = Spot;
 
-// A plan found: 0 for yes.
-pub fn found_number(f: Result<Span, FindWhy>) -> usize
-    ensures { result ≡ found_number f }
-{
-    match f {
-        Ok(_) => 0,
-        Err(w) => find_why_number(w),
+    ghost number = { find_why_number };
+
+    ghost place = { find_why_place };
+
+    ghost nowhere = { InList Nowhere };
+
+    fn number(self) -> usize {
+        match self {
+            FindWhy::Large => 52,
+            FindWhy::Empty => 51,
+        }
+    }
+
+    fn place(self) -> Spot {
+        Self::nowhere()
+    }
+
+    fn nowhere() -> Spot {
+        Spot::InList(Place::Nowhere)
     }
 }
 

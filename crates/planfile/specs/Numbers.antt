@@ -1,6 +1,7 @@
 -- The paper's number and place of each answer of reading and writing.
 -- Assumes nothing.
-use Rattle.std.specs.Prelude.{ℕ, Result, Ok, Err}
+use Rattle.std.specs.Prelude.{ℕ, Result}
+use Rattle.refusal.specs.Answer.{number_with, place_with}
 use Rattle.joblist.specs.declared.Place.TheVariants.{Nowhere}
 use Rattle.verdict.specs.Numbers.{number_of, place_of}
 use Rattle.verdict.specs.declared.Spot.{Spot}
@@ -31,12 +32,10 @@ read_why_place (Checked w) = place_of w
 
 -- reading: 0 for yes
 abbrev pub read_number : Result Shape ReadWhy → ℕ
-read_number (Ok shape) = 0
-read_number (Err w) = read_why_number w
+read_number a = number_with read_why_number a
 
 abbrev pub read_place : Result Shape ReadWhy → Spot
-read_place (Ok shape) = nowhere
-read_place (Err w) = read_why_place w
+read_place a = place_with nowhere read_why_place a
 
 -- why nothing was written: its number
 abbrev pub write_why_number : WriteWhy → ℕ
@@ -50,9 +49,7 @@ write_why_place Room = nowhere
 
 -- writing: 0 for yes
 abbrev pub wrote_number : Result ℕ WriteWhy → ℕ
-wrote_number (Ok size) = 0
-wrote_number (Err w) = write_why_number w
+wrote_number a = number_with write_why_number a
 
 abbrev pub wrote_place : Result ℕ WriteWhy → Spot
-wrote_place (Ok size) = nowhere
-wrote_place (Err w) = write_why_place w
+wrote_place a = place_with nowhere write_why_place a

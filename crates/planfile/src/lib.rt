@@ -8,9 +8,12 @@ ghost use Rattle.basics.specs.Put.{put};
 ghost use Rattle.joblist.specs.Fields.{jobs, edges, slots};
 ghost use Rattle.planfile.specs.Plan.{trailer_bytes, trailer, plan_of, plan_bytes, least_bytes, low_at, list_of, low_of, high_of};
 ghost use Rattle.planfile.specs.Answer.{shape_of, parts_answer, read_of, write_of, out_after};
-ghost use Rattle.planfile.specs.Numbers.{read_why_number, read_why_place, read_number, read_place, write_why_number, write_why_place, wrote_number, wrote_place};
+ghost use Rattle.planfile.specs.Numbers.{read_why_number, read_why_place, write_why_number, write_why_place};
+ghost use Rattle.verdict.specs.declared.Spot.TheVariants.{InList};
+ghost use Rattle.joblist.specs.declared.Place.TheVariants.{Nowhere};
 
 use joblist::{EDGE_BYTES, HEAD_BYTES, JOB_BYTES, Place, Why, edges_of, jobs_of, slots_of};
+use refusal::Refusal;
 use verdict::{Objection, Spot};
 
 // The mark that ends a plan of the first edition, 54 54 50 31, as the 32 bits that it is read as.
@@ -77,85 +80,61 @@ impl From<Objection> for WriteWhy {
     }
 }
 
-// The paper's number of a refused plan.
-pub fn read_why_number(w: ReadWhy) -> usize
-    ensures { result ≡ read_why_number w }
-{
-    match w {
-        ReadWhy::Short => 40,
-        ReadWhy::Mark => 41,
-        ReadWhy::Distance => 42,
-        ReadWhy::Checked(o) => verdict::number_of(o),
+impl Refusal for ReadWhy {
+    type Place = Spot;
+
+    ghost number = { read_why_number };
+
+    ghost place = { read_why_place };
+
+    ghost nowhere = { InList Nowhere };
+
+    fn number(self) -> usize {
+        match self {
+            ReadWhy::Short => 40,
+            ReadWhy::Mark => 41,
+            ReadWhy::Distance => 42,
+            ReadWhy::Checked(o) => verdict::number_of(o),
+        }
+    }
+
+    fn place(self) -> Spot {
+        match self {
+            ReadWhy::Short | ReadWhy::Mark | ReadWhy::Distance => Self::nowhere(),
+            ReadWhy::Checked(o) => verdict::place_of(o),
+        }
+    }
+
+    fn nowhere() -> Spot {
+        Spot::InList(Place::Nowhere)
     }
 }
 
-// The paper's place of a refused plan.
-pub fn read_why_place(w: ReadWhy) -> Spot
-    ensures { result ≡ read_why_place w }
-{
-    match w {
-        ReadWhy::Short => Spot::InList(Place::Nowhere),
-        ReadWhy::Mark => Spot::InList(Place::Nowhere),
-        ReadWhy::Distance => Spot::InList(Place::Nowhere),
-        ReadWhy::Checked(o) => verdict::place_of(o),
-    }
-}
+impl Refusal for WriteWhy {
+    type Place = Spot;
 
-// Reading: 0 for yes.
-pub fn read_number(a: Result<Shape, ReadWhy>) -> usize
-    ensures { result ≡ read_number a }
-{
-    match a {
-        Ok(_shape) => 0,
-        Err(w) => read_why_number(w),
-    }
-}
+    ghost number = { write_why_number };
 
-pub fn read_place(a: Result<Shape, ReadWhy>) -> Spot
-    ensures { result ≡ read_place a }
-{
-    match a {
-        Ok(_shape) => Spot::InList(Place::Nowhere),
-        Err(w) => read_why_place(w),
-    }
-}
+    ghost place = { write_why_place };
 
-// The paper's number of a refused write.
-pub fn write_why_number(w: WriteWhy) -> usize
-    ensures { result ≡ write_why_number w }
-{
-    match w {
-        WriteWhy::Checked(o) => verdict::number_of(o),
-        WriteWhy::Room => 46,
-    }
-}
+    ghost nowhere = { InList Nowhere };
 
-// The paper's place of a refused write.
-pub fn write_why_place(w: WriteWhy) -> Spot
-    ensures { result ≡ write_why_place w }
-{
-    match w {
-        WriteWhy::Checked(o) => verdict::place_of(o),
-        WriteWhy::Room => Spot::InList(Place::Nowhere),
+    fn number(self) -> usize {
+        match self {
+            WriteWhy::Checked(o) => verdict::number_of(o),
+            WriteWhy::Room => 46,
+        }
     }
-}
 
-// Writing: 0 for yes.
-pub fn wrote_number(a: Result<usize, WriteWhy>) -> usize
-    ensures { result ≡ wrote_number a }
-{
-    match a {
-        Ok(_length) => 0,
-        Err(w) => write_why_number(w),
+    fn place(self) -> Spot {
+        match self {
+            WriteWhy::Checked(o) => verdict::place_of(o),
+            WriteWhy::Room => Self::nowhere(),
+        }
     }
-}
 
-pub fn wrote_place(a: Result<usize, WriteWhy>) -> Spot
-    ensures { result ≡ wrote_place a }
-{
-    match a {
-        Ok(_length) => Spot::InList(Place::Nowhere),
-        Err(w) => write_why_place(w),
+    fn nowhere() -> Spot {
+        ReadWhy::nowhere()
     }
 }
 

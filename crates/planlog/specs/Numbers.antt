@@ -1,6 +1,7 @@
 -- The paper's number and place of each answer of the log.
 -- Assumes nothing.
-use Rattle.std.specs.Prelude.{ℕ, Result, Ok, Err}
+use Rattle.std.specs.Prelude.{ℕ, Result}
+use Rattle.refusal.specs.Answer.{number_with, place_with}
 use Rattle.verdict.specs.declared.Spot.{Spot}
 use Rattle.planfile.specs.Numbers.{nowhere, read_why_number, read_why_place}
 use Rattle.planlog.specs.declared.AppendWhy.{AppendWhy}
@@ -20,9 +21,7 @@ append_why_place Full = nowhere
 
 -- an append: 0 for yes
 abbrev pub append_number : Result ℕ AppendWhy → ℕ
-append_number (Ok start) = 0
-append_number (Err w) = append_why_number w
+append_number a = number_with append_why_number a
 
 abbrev pub append_place : Result ℕ AppendWhy → Spot
-append_place (Ok start) = nowhere
-append_place (Err w) = append_why_place w
+append_place a = place_with nowhere append_why_place a

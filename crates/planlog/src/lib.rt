@@ -7,11 +7,13 @@ ghost use Rattle.logwalk.specs.Walk.{last_end};
 ghost use Rattle.planlog.specs.Writes.{zeros, copies, writes_at, after, nth_write};
 ghost use Rattle.planlog.specs.Answer.{append_of, cut_store, appended_store};
 ghost use Rattle.planlog.specs.declared.AppendWhy.TheVariants.{Refused};
-ghost use Rattle.planlog.specs.Numbers.{append_why_number, append_why_place, append_number, append_place};
+ghost use Rattle.planlog.specs.Numbers.{append_why_number, append_why_place};
+ghost use Rattle.verdict.specs.declared.Spot.TheVariants.{InList};
+ghost use Rattle.joblist.specs.declared.Place.TheVariants.{Nowhere};
 
-use joblist::Place;
 use logwalk::STORE_MOST;
 use planfile::ReadWhy;
+use refusal::Refusal;
 use verdict::Spot;
 
 // No append writes more bytes: each byte of the store at most twice.
@@ -40,44 +42,32 @@ impl From<ReadWhy> for AppendWhy {
     }
 }
 
-// The paper's number of a refused append.
-pub fn append_why_number(w: AppendWhy) -> usize
-    ensures { result ≡ append_why_number w }
-{
-    match w {
-        AppendWhy::Large => 52,
-        AppendWhy::Refused(o) => planfile::read_why_number(o),
-        AppendWhy::Full => 50,
-    }
-}
+impl Refusal for AppendWhy {
+    type Place = Spot;
 
-// The paper's place of a refused append.
-pub fn append_why_place(w: AppendWhy) -> Spot
-    ensures { result ≡ append_why_place w }
-{
-    match w {
-        AppendWhy::Large => Spot::InList(Place::Nowhere),
-        AppendWhy::Refused(o) => planfile::read_why_place(o),
-        AppendWhy::Full => Spot::InList(Place::Nowhere),
-    }
-}
+    ghost number = { append_why_number };
 
-// An append: 0 for yes.
-pub fn append_number(a: Result<usize, AppendWhy>) -> usize
-    ensures { result ≡ append_number a }
-{
-    match a {
-        Ok(_) => 0,
-        Err(w) => append_why_number(w),
-    }
-}
+    ghost place = { append_why_place };
 
-pub fn append_place(a: Result<usize, AppendWhy>) -> Spot
-    ensures { result ≡ append_place a }
-{
-    match a {
-        Ok(_) => Spot::InList(Place::Nowhere),
-        Err(w) => append_why_place(w),
+    ghost nowhere = { InList Nowhere };
+
+    fn number(self) -> usize {
+        match self {
+            AppendWhy::Large => 52,
+            AppendWhy::Refused(w) => w.number(),
+            AppendWhy::Full => 50,
+        }
+    }
+
+    fn place(self) -> Spot {
+        match self {
+            AppendWhy::Large | AppendWhy::Full => Self::nowhere(),
+            AppendWhy::Refused(w) => w.place(),
+        }
+    }
+
+    fn nowhere() -> Spot {
+        ReadWhy::nowhere()
     }
 }
 

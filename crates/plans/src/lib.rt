@@ -8,6 +8,7 @@ use jobtext::Names;
 use merge::Built;
 use page::{Page, less};
 use planfile::{ReadWhy, Shape, TRAILER_BYTES, WriteWhy};
+use refusal::Refusal;
 use verdict::Spot;
 
 // No plan has more bytes: the largest list, two tables and the trailer.
@@ -80,7 +81,7 @@ pub fn build(page: Page, list: &[u8], names: Names) -> Plan {
 }
 
 fn unwritten(page: Page, plan: &[u8], names: Names, w: WriteWhy) -> Page {
-    let no = words::at_spot(planfile::write_why_number(w), planfile::write_why_place(w));
+    let no = words::at_spot(w.number(), w.place());
     words::tell(page, list_of(plan), &names, no)
 }
 
@@ -120,17 +121,17 @@ pub fn put_list_fault(page: Page, list: &[u8], names: Names) -> Page {
 }
 
 // The number of a plan's refusal: 0 where it is accepted.
-fn refusal(plan: &[u8]) -> usize {
-    planfile::read_number(answer(plan))
+fn refusal_number(plan: &[u8]) -> usize {
+    refusal::answer_number(answer(plan))
 }
 
 pub fn is_accepted(plan: &[u8]) -> bool {
-    refusal(plan) == 0
+    refusal_number(plan) == 0
 }
 
 // Whether a plan is whole, though the check may find a fault in its tables.
 pub fn is_whole(plan: &[u8]) -> bool {
-    let n = refusal(plan);
+    let n = refusal_number(plan);
     if n == 0 {
         return true;
     }
@@ -145,7 +146,7 @@ pub fn put_fault(page: Page, plan: &[u8], names: Names) -> Page {
     match answer(plan) {
         Ok(_) => page,
         Err(w) => {
-            let no = words::at_spot(planfile::read_why_number(w), planfile::read_why_place(w));
+            let no = words::at_spot(w.number(), w.place());
             words::tell(page, list_of(plan), &names, no)
         }
     }
