@@ -1,4 +1,4 @@
-// The plans of a store, back to back: the walk from the front, the newest, and the one before.
+//! The plans of a store, back to back: the walk from the front, the newest, and the one before.
 #![tactic(auto)]
 
 ghost use Rattle.std.specs.Prelude.{◌≡◌, ◌≤◌, length, IfSome};
@@ -14,17 +14,17 @@ use planfile::{Counted, TRAILER_BYTES};
 use refusal::Refusal;
 use verdict::Spot;
 
-// No store is larger: 64 KiB.
+/// No store is larger: 64 KiB.
 pub const STORE_MOST: usize = 65536;
 
-// A plan in a store: where it begins, and how many bytes it has.
+/// A plan in a store: where it begins, and how many bytes it has.
 #[derive(Clone, Copy)]
 pub struct Span {
     pub start: usize,
     pub size: usize,
 }
 
-// Why no plan was found.
+/// Why no plan was found.
 #[derive(Clone, Copy)]
 pub enum FindWhy {
     Large,
@@ -66,7 +66,7 @@ fn size_at(store: &[u8], at: usize) -> Option<usize>
     planfile::read(rest.get(..size)?).is_ok().then_some(size)
 }
 
-// Inner: the last whole plan, by the walk from the front.
+/// Inner: the last whole plan, by the walk from the front.
 #[tactic(auto, using(crate::proofs::Steps::step_fits, crate::proofs::Steps::step_least, crate::proofs::Steps::step_first))]
 pub fn last_of(store: &[u8]) -> Option<Span>
     ensures last { result ≡ last_plan (walk first_edition store.now) }
@@ -81,7 +81,7 @@ pub fn last_of(store: &[u8]) -> Option<Span>
     last
 }
 
-// The newest whole plan of a store: its place and size.
+/// The newest whole plan of a store: its place and size.
 #[tactic(auto, using(crate::proofs::Rows::newest_large, crate::proofs::Rows::newest_walk))]
 pub fn newest(store: &[u8]) -> Result<Span, FindWhy>
     ensures { result ≡ newest_of first_edition store.now }
@@ -107,7 +107,7 @@ fn plan_before(store: &[u8], end: usize) -> Option<Span>
     planfile::read(&before[start..]).is_ok().then_some(plan)
 }
 
-// The accepted plan that ends at `end`. From the newest plan's end, and then from each start, this lists the plans newest first.
+/// The accepted plan that ends at `end`. From the newest plan's end, and then from each start, this lists the plans newest first.
 #[tactic(auto, unfolding(crate::specs::Answer::previous_of))]
 pub fn previous(store: &[u8], end: usize) -> Result<Span, FindWhy>
     ensures { result ≡ previous_of first_edition store.now end }

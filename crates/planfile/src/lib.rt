@@ -1,4 +1,4 @@
-// A plan in bytes: written from a list and two tables, read again, and taken apart.
+//! A plan in bytes: written from a list and two tables, read again, and taken apart.
 #![tactic(auto)]
 
 ghost use Rattle.std.specs.Prelude.{◌≡◌, ℕ, ◌+◌, ◌<◌, ◌≤◌, length, take, drop, ◌↔◌, IsSome, IfSome};
@@ -16,22 +16,37 @@ use joblist::{EDGE_BYTES, HEAD_BYTES, JOB_BYTES, Place, Why, edges_of, jobs_of, 
 use refusal::Refusal;
 use verdict::{Objection, Spot};
 
-// The mark that ends a plan of the first edition, 54 54 50 31, as the 32 bits that it is read as.
+/// The mark that ends a plan of the first edition, 54 54 50 31, as the 32 bits that it is read as.
 pub const MARK: usize = 0x31505454;
 
-// The bytes of the trailer: the distance and the mark, 32 bits each.
+/// The bytes of the trailer: the distance and the mark, 32 bits each.
 pub const TRAILER_BYTES: usize = 8;
 
-// No plan is shorter.
+/// No plan is shorter.
 pub const LEAST_BYTES: usize = HEAD_BYTES + TRAILER_BYTES;
 
-// Why bytes are no plan.
+/// Why bytes are no plan.
 #[derive(Clone, Copy)]
 pub enum ReadWhy {
     Short,
     Mark,
     Distance,
     Checked(Objection),
+}
+
+/// The counts n and m, and the frame length L.
+#[derive(Clone, Copy)]
+pub struct Shape {
+    pub jobs: usize,
+    pub edges: usize,
+    pub slots: usize,
+}
+
+/// Why nothing was written.
+#[derive(Clone, Copy)]
+pub enum WriteWhy {
+    Checked(Objection),
+    Room,
 }
 
 impl From<Objection> for ReadWhy {
@@ -53,21 +68,6 @@ impl From<Why> for ReadWhy {
     fn from(list: Why) -> ReadWhy {
         ReadWhy::Checked(Objection::OfList(list))
     }
-}
-
-// The counts n and m, and the frame length L.
-#[derive(Clone, Copy)]
-pub struct Shape {
-    pub jobs: usize,
-    pub edges: usize,
-    pub slots: usize,
-}
-
-// Why nothing was written.
-#[derive(Clone, Copy)]
-pub enum WriteWhy {
-    Checked(Objection),
-    Room,
 }
 
 impl From<Objection> for WriteWhy {
@@ -94,14 +94,14 @@ impl Refusal for ReadWhy {
             ReadWhy::Short => 40,
             ReadWhy::Mark => 41,
             ReadWhy::Distance => 42,
-            ReadWhy::Checked(o) => verdict::number_of(o),
+            ReadWhy::Checked(o) => o.number(),
         }
     }
 
     fn place(self) -> Spot {
         match self {
             ReadWhy::Short | ReadWhy::Mark | ReadWhy::Distance => Self::nowhere(),
-            ReadWhy::Checked(o) => verdict::place_of(o),
+            ReadWhy::Checked(o) => o.place(),
         }
     }
 
@@ -121,14 +121,14 @@ impl Refusal for WriteWhy {
 
     fn number(self) -> usize {
         match self {
-            WriteWhy::Checked(o) => verdict::number_of(o),
+            WriteWhy::Checked(o) => o.number(),
             WriteWhy::Room => 46,
         }
     }
 
     fn place(self) -> Spot {
         match self {
-            WriteWhy::Checked(o) => verdict::place_of(o),
+            WriteWhy::Checked(o) => o.place(),
             WriteWhy::Room => Self::nowhere(),
         }
     }
@@ -147,7 +147,7 @@ fn trailer_of(back: usize) -> [u8; TRAILER_BYTES]
     [a, b, c, d, e, f, g, h]
 }
 
-// Inner: the plan of a list and two tables that were checked, at the front of a buffer that has room; its length. Who builds a pair writes it so too.
+/// Inner: the plan of a list and two tables that were checked, at the front of a buffer that has room; its length. Who builds a pair writes it so too.
 pub fn put_plan(list: &[u8], lo: &[u8], hi: &[u8], out: &mut [u8]) -> usize
     requires { length list.now + length lo.now + length hi.now + trailer_bytes ≤ length out.old }
     ensures { (result ≡ length (plan_of list.now lo.now hi.now))
@@ -164,7 +164,8 @@ pub fn put_plan(list: &[u8], lo: &[u8], hi: &[u8], out: &mut [u8]) -> usize
     end
 }
 
-// Writes the plan at the front of `out`, where the check says yes and there is room; no byte changes otherwise.
+/// Writes the plan at the front of `out`, where the check says yes and there is room; no byte changes otherwise.
+// The list and its tables stand side by side, as in the check's call and in C's.
 #[tactic(auto, using(crate::proofs::Accepted::pair_fits, crate::proofs::Written::plan_length), unfolding(crate::specs::Answer::write_of, crate::specs::Answer::out_after))]
 pub fn write(list: &[u8], lo: &[u8], hi: &[u8], out: &mut [u8]) -> Result<usize, WriteWhy>
     ensures { (result ≡ write_of first_edition list.now lo.now hi.now (length out.old))
@@ -177,7 +178,7 @@ pub fn write(list: &[u8], lo: &[u8], hi: &[u8], out: &mut [u8]) -> Result<usize,
     Ok(put_plan(list, lo, hi, out))
 }
 
-// Inner: the 32 bits at i. The log reads a trailer so too.
+/// Inner: the 32 bits at i. The log reads a trailer so too.
 #[tactic(auto, unfolding(basics::specs::Bytes::u32_at))]
 pub fn u32_at(s: &[u8], i: usize) -> usize
     requires { i + 3 < length s.now }
@@ -195,7 +196,7 @@ fn part(s: &[u8], at: usize, k: usize) -> &[u8]
     &rest[..k.min(rest.len())]
 }
 
-// Bytes as many as the shortest plan has, so that they have counts.
+/// Bytes as many as the shortest plan has, so that they have counts.
 #[derive(Clone, Copy)]
 pub struct Counted<'a> {
     pub bytes: &'a [u8],
@@ -203,7 +204,7 @@ pub struct Counted<'a> {
 }
 
 impl<'a> Counted<'a> {
-    // None of fewer bytes.
+    /// None of fewer bytes.
     pub fn of(bytes: &'a [u8]) -> Option<Self>
         ensures long { IsSome result ↔ (least_bytes ≤ length bytes.now) }
         ensures same { IfSome result (λ plan. plan.bytes.now ≡ bytes.now) }
@@ -232,7 +233,7 @@ impl<'a> Counted<'a> {
         HEAD_BYTES + JOB_BYTES * jobs_of(self.bytes) + EDGE_BYTES * edges_of(self.bytes)
     }
 
-    // Inner: the length that the counts give a plan. The log finds a plan's end so too.
+    /// Inner: the length that the counts give a plan. The log finds a plan's end so too.
     pub fn size(self) -> usize
         ensures { (result ≡ plan_bytes (jobs self.entry.bytes.now) (edges self.entry.bytes.now) (slots self.entry.bytes.now)) × (result < 2000000) }
     {
@@ -251,7 +252,7 @@ impl<'a> Counted<'a> {
     }
 }
 
-// The list of a plan, as much of it as lies in the bytes; nothing of fewer than 16 bytes.
+/// The list of a plan, as much of it as lies in the bytes; nothing of fewer than 16 bytes.
 #[tactic(auto, using(crate::proofs::Parts::part_none, crate::proofs::Parts::part_some))]
 pub fn list_of(plan: &[u8]) -> &[u8]
     ensures { result.now ≡ list_of plan.now }
@@ -262,7 +263,7 @@ pub fn list_of(plan: &[u8]) -> &[u8]
     }
 }
 
-// Its table LO, in the same way.
+/// Its table LO, in the same way.
 #[tactic(auto, using(crate::proofs::Parts::part_none, crate::proofs::Parts::part_some))]
 pub fn low_of(plan: &[u8]) -> &[u8]
     ensures { result.now ≡ low_of plan.now }
@@ -273,7 +274,7 @@ pub fn low_of(plan: &[u8]) -> &[u8]
     }
 }
 
-// Its table HI, in the same way.
+/// Its table HI, in the same way.
 #[tactic(auto, using(crate::proofs::Parts::part_none, crate::proofs::Parts::part_some))]
 pub fn high_of(plan: &[u8]) -> &[u8]
     ensures { result.now ≡ high_of plan.now }
@@ -284,7 +285,7 @@ pub fn high_of(plan: &[u8]) -> &[u8]
     }
 }
 
-// What the bytes of a slice are: a plan, with its counts, or why not.
+/// What the bytes of a slice are: a plan, with its counts, or why not.
 #[tactic(auto, unfolding(crate::specs::Answer::read_of, basics::specs::Bytes::u32_at))]
 pub fn read(plan: &[u8]) -> Result<Shape, ReadWhy>
     ensures { result ≡ read_of first_edition plan.now }

@@ -1,4 +1,4 @@
-// A log of plans in one store: appended so that a cut of power loses none.
+//! A log of plans in one store: appended so that a cut of power loses none.
 #![tactic(auto)]
 
 ghost use Rattle.std.specs.Prelude.{◌≡◌, ◌+◌, ◌-◌, ◌≤◌, length, take};
@@ -19,14 +19,14 @@ use verdict::Spot;
 // No append writes more bytes: each byte of the store at most twice.
 const WRITES_MOST: usize = 2 * STORE_MOST;
 
-// One byte written into a store.
+/// One byte written into a store.
 #[derive(Clone, Copy)]
 pub struct Write {
     pub place: usize,
     pub byte: u8,
 }
 
-// Why a plan was not appended.
+/// Why a plan was not appended.
 #[derive(Clone, Copy)]
 pub enum AppendWhy {
     Large,
@@ -83,7 +83,7 @@ fn last_end(store: &[u8]) -> usize
     }
 }
 
-// Where an append puts the plan, or why it does not. It only reads.
+/// Where an append puts the plan, or why it does not. It only reads.
 #[tactic(auto, unfolding(crate::specs::Answer::append_of))]
 pub fn room_for(store: &[u8], plan: &[u8]) -> Result<usize, AppendWhy>
     ensures { result ≡ append_of first_edition store.now plan.now }
@@ -99,7 +99,7 @@ pub fn room_for(store: &[u8], plan: &[u8]) -> Result<usize, AppendWhy>
     Ok(end)
 }
 
-// Zeroes k bytes of the store, from its last byte back.
+// Zeroes k bytes of the store, from its last byte back; byte by byte, since the log's order of writes stands here, and `fill` has none.
 #[tactic(auto, using(crate::proofs::Writes::after_none))]
 fn zero_back(store: &mut [u8], end: usize, k: usize)
     requires { (end ≤ length store.old) × (k ≤ length store.old - end) }
@@ -111,7 +111,7 @@ fn zero_back(store: &mut [u8], end: usize, k: usize)
     }
 }
 
-// Writes bytes from `at` on, forwards.
+// Writes bytes from `at` on, forwards; byte by byte, for the same reason.
 #[tactic(auto, using(crate::proofs::Writes::after_none))]
 fn copy_on(store: &mut [u8], at: usize, bytes: &[u8])
     requires { at + length bytes.now ≤ length store.old }
@@ -133,7 +133,7 @@ fn write_at(store: &mut [u8], plan: &[u8], end: usize, most: usize)
     copy_on(store, end, &plan[..plan.len().min(most - zeros)]);
 }
 
-// Appends the plan, where power fails after `most` bytes were written. No byte changes where the append is refused.
+/// Appends the plan, where power fails after `most` bytes were written. No byte changes where the append is refused.
 #[tactic(auto, using(crate::proofs::Rows::append_yes, crate::proofs::Rows::cut_leaves, crate::proofs::Rows::cut_writes))]
 pub fn append_cut(store: &mut [u8], plan: &[u8], most: usize) -> Result<usize, AppendWhy>
     ensures { (result ≡ append_of first_edition store.old plan.now)
@@ -144,7 +144,7 @@ pub fn append_cut(store: &mut [u8], plan: &[u8], most: usize) -> Result<usize, A
     Ok(end)
 }
 
-// Appends the plan: the same, and power lasts for every byte that an append can write.
+/// Appends the plan: the same, and power lasts for every byte that an append can write.
 #[tactic(auto, using(crate::proofs::Rows::cut_never))]
 pub fn append(store: &mut [u8], plan: &[u8]) -> Result<usize, AppendWhy>
     ensures { (result ≡ append_of first_edition store.old plan.now)
@@ -153,7 +153,7 @@ pub fn append(store: &mut [u8], plan: &[u8]) -> Result<usize, AppendWhy>
     append_cut(store, plan, WRITES_MOST)
 }
 
-// Write k of an append that puts the plan at `end` in a store of `size` bytes: for a store that is written byte by byte, behind a device or in a file. None past the last, or where the plan does not fit.
+/// Write k of an append that puts the plan at `end` in a store of `size` bytes: for a store that is written byte by byte, behind a device or in a file. None past the last, or where the plan does not fit.
 #[tactic(auto, using(crate::proofs::Writes::nth_beyond, crate::proofs::Writes::nth_zero, crate::proofs::Writes::nth_byte, crate::proofs::Writes::nth_past))]
 pub fn nth_write(size: usize, end: usize, plan: &[u8], k: usize) -> Option<Write>
     ensures { result ≡ nth_write size end plan.now k }
