@@ -2,7 +2,7 @@
 use files::send;
 use page::Page;
 
-const HELP: [u8; 1660] = *b"desk: plans for jobs of two levels, in slots
+const HELP: &str = "desk: plans for jobs of two levels, in slots
 
   desk demo                       the whole story on a small list
   desk build JOBS PLAN            build the plan of a text job list, or say why not
@@ -29,5 +29,5 @@ was ordered last has ended. The first tick opens the plan.
 ";
 
 pub(crate) fn say(rt: &HostRuntime) {
-    send(Page::output(rt).put(&HELP));
+    send(Page::output(rt).put(HELP.as_bytes()));
 }

@@ -1,125 +1,47 @@
 // desk: the command for the people at the desk. What it does is done by the proved calls; this reads, writes and prints.
 #![tactic(auto)]
 
+mod command;
 mod commands;
 mod help;
 mod story;
 
+use command::Command;
 use std::env::Env;
 
 // The bytes of the longest word of the command.
 const WORD: usize = 4096;
 
-// Whether a word of the command is this one.
-fn is(word: &[u8], name: &[u8]) -> bool {
-    text::same(word, name)
-}
-
-// Which words of the command name files.
-fn show(rt: &HostRuntime, b: &[u8], c: &[u8], d: &[u8], is_why: bool) {
-    if is(b, b"--svg") {
-        commands::show(rt, c, d, true, is_why);
-        return;
-    }
-    if is(c, b"--svg") {
-        commands::show(rt, b, d, true, is_why);
-        return;
-    }
-    commands::show(rt, b, c, is(d, b"--svg"), is_why);
-}
-
-fn run(rt: &HostRuntime, b: &[u8], c: &[u8], d: &[u8], e: &[u8]) {
-    if is(c, b"--demo") {
-        commands::run(rt, b, d, true, e);
-        return;
-    }
-    commands::run(rt, b, c, false, d);
-}
-
-// desk log STORE WORD ..
-fn log(rt: &HostRuntime, b: &[u8], c: &[u8], d: &[u8]) {
-    if !logs::command(rt, b, c, d) {
-        help::say(rt);
+// Word i of the command; nothing where it has fewer, or where the word is longer.
+fn word<'a>(rt: &HostRuntime, i: usize, room: &'a mut [u8; WORD]) -> &'a [u8] {
+    match rt.arg(i, room) {
+        Ok(size) => &room[..size],
+        Err(_) => b"",
     }
 }
 
-// The command that is given three.
-fn on_texts(rt: &HostRuntime, a: &[u8], b: &[u8], c: &[u8], d: &[u8]) {
-    if is(a, b"write") {
-        commands::write(rt, b, c, d);
-        return;
+// Whether there is something to be done, and all of it was done; else it was said why not.
+fn run(rt: &HostRuntime, command: Command) -> Option<()> {
+    match command {
+        Command::Help => help::say(rt),
+        Command::Demo => story::tell(rt)?,
+        Command::Build(jobs, to) => commands::build(rt, jobs, to)?,
+        Command::Write(jobs, tables, to) => commands::write(rt, jobs, tables, to)?,
+        Command::Check(files) => commands::check(rt, files)?,
+        Command::Show(files, look) => commands::show(rt, files, look)?,
+        Command::Why(files, look) => commands::why(rt, files, look)?,
+        Command::Run(plan, ticks, jobs) => commands::run(rt, plan, ticks, jobs)?,
+        Command::List(plan) => commands::list(rt, plan)?,
+        Command::Tables(files) => commands::tables(rt, files)?,
+        Command::C(plan, name) => commands::c(rt, plan, name)?,
+        Command::Log(store, word, given) => {
+            if !logs::command(rt, store, word, given) {
+                help::say(rt);
+            }
+        }
+        Command::Words => commands::words(rt),
     }
-    help::say(rt);
-}
-
-// The commands that are given two words or more.
-fn on_files(rt: &HostRuntime, a: &[u8], b: &[u8], c: &[u8], d: &[u8], e: &[u8]) {
-    if is(a, b"build") {
-        commands::build(rt, b, c);
-        return;
-    }
-    if is(a, b"run") {
-        run(rt, b, c, d, e);
-        return;
-    }
-    if is(a, b"c") {
-        commands::c(rt, b, c);
-        return;
-    }
-    if is(a, b"log") {
-        log(rt, b, c, d);
-        return;
-    }
-    if d.len() == 0 {
-        help::say(rt);
-        return;
-    }
-    on_texts(rt, a, b, c, d);
-}
-
-// The commands that are given a plan at least.
-fn on_plan(rt: &HostRuntime, a: &[u8], b: &[u8], c: &[u8], d: &[u8], e: &[u8]) {
-    if is(a, b"check") {
-        commands::check(rt, b, c);
-        return;
-    }
-    if is(a, b"show") {
-        show(rt, b, c, d, false);
-        return;
-    }
-    if is(a, b"why") {
-        show(rt, b, c, d, true);
-        return;
-    }
-    if is(a, b"tables") {
-        commands::tables(rt, b, c);
-        return;
-    }
-    if is(a, b"list") {
-        commands::list(rt, b);
-        return;
-    }
-    if c.len() == 0 {
-        help::say(rt);
-        return;
-    }
-    on_files(rt, a, b, c, d, e);
-}
-
-fn start(rt: &HostRuntime, a: &[u8], b: &[u8], c: &[u8], d: &[u8], e: &[u8]) {
-    if is(a, b"demo") {
-        story::tell(rt);
-        return;
-    }
-    if is(a, b"words") {
-        commands::words(rt);
-        return;
-    }
-    if b.len() == 0 {
-        help::say(rt);
-        return;
-    }
-    on_plan(rt, a, b, c, d, e);
+    Some(())
 }
 
 fn main(rt: HostRuntime) {
@@ -128,10 +50,12 @@ fn main(rt: HostRuntime) {
     let mut c = [0u8; WORD];
     let mut d = [0u8; WORD];
     let mut e = [0u8; WORD];
-    let i = rt.arg(1, &mut a).unwrap_or(0);
-    let j = rt.arg(2, &mut b).unwrap_or(0);
-    let k = rt.arg(3, &mut c).unwrap_or(0);
-    let l = rt.arg(4, &mut d).unwrap_or(0);
-    let m = rt.arg(5, &mut e).unwrap_or(0);
-    start(&rt, &a[..i], &b[..j], &c[..k], &d[..l], &e[..m]);
+    let words = [
+        word(&rt, 1, &mut a),
+        word(&rt, 2, &mut b),
+        word(&rt, 3, &mut c),
+        word(&rt, 4, &mut d),
+        word(&rt, 5, &mut e),
+    ];
+    let _ = run(&rt, Command::of(words));
 }

@@ -6,9 +6,8 @@ use logwalk::{FindWhy, STORE_MOST, Span};
 use page::{Page, less, plus};
 use planlog::AppendWhy;
 use plans::list_of;
-use refusal::Refusal;
 use text::part;
-use words::label;
+use words::{No, label};
 
 pub fn end_of(s: Span) -> usize {
     plus(s.start, s.size)
@@ -21,14 +20,12 @@ pub fn plan_at(store: &[u8], s: Span) -> &[u8] {
 
 // Why no plan was found.
 pub fn put_not_found(page: Page, w: FindWhy) -> Page {
-    let no = words::at_spot(w.number(), w.place());
-    words::tell(page, b"", &Names::none(), no)
+    words::tell(page, b"", &Names::none(), No::of(w))
 }
 
 // Why a plan was not appended.
 pub fn put_refused(page: Page, plan: &[u8], w: AppendWhy) -> Page {
-    let no = words::at_spot(w.number(), w.place());
-    words::tell(page, list_of(plan), &Names::none(), no)
+    words::tell(page, list_of(plan), &Names::none(), No::of(w))
 }
 
 // A store that was made.

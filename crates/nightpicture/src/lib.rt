@@ -7,6 +7,7 @@ use nights::{At, budgets, witness_of};
 use page::Page;
 use picture::shapes::{head, key, label, text_at, text_end, upright};
 use picture::sheet::{Grid, MARGIN, Sheet};
+use refusal::Refusal;
 use verdict::{Fault, Objection};
 
 // How a slot looks that did not run, and the fault.
@@ -86,7 +87,7 @@ fn put_fault(page: Page, grid: Grid, f: Fault) -> Page {
     let under = grid.bottom().saturating_add(20);
     let to = text_at(marked, b"wrong", 20, under).put(b"slot ");
     let placed = to.number(slot).put(b": ");
-    text_end(words::meaning(placed, verdict::fault_number(f)))
+    text_end(words::meaning(placed, f.number()))
 }
 
 fn put_legend(page: Page) -> Page {

@@ -1,197 +1,141 @@
 // What a command is given: a plan file, with a job list that lends its names; or a job list, with its two tables drawn by
-// hand. Both come out as the bytes of a plan with the names of its jobs, so that a command is made once.
+// hand. Both come out as the bytes of a plan with the names of its jobs, so that a command is made once. Where nothing comes
+// out, it was said why.
 #![tactic(auto)]
 
-use files::{File, MOST, complain, send};
-use jobtext::{Jobs, Names, list};
+use drawing::plan::Plan;
+use files::{complain, fail, send};
+use jobtext::{Jobs, Names};
 use page::Page;
-use plans::list_of;
-use text::{find, part, same};
 
-// The bytes of a plan, which the check may have something against, and how many; the names of its jobs; whether all was
-// read, or why not was said; whether the names are of another list; and whether the tables were drawn by hand.
-#[derive(Drop)]
-pub struct Pair {
-    pub bytes: [u8; MOST],
-    pub size: usize,
-    pub names: Names,
-    pub is_read: bool,
-    pub is_other: bool,
-    pub is_drawn: bool,
+// Where the tables of a pair are from: a plan file, whose names may be those of another list; or they were drawn by hand.
+#[derive(Clone, Copy, PartialEq, Eq)]
+pub enum Source {
+    Plan,
+    PlanOfOther,
+    Drawn,
 }
 
-impl Pair {
-    // Nothing, after it was said why.
-    fn none() -> Self {
-        Pair {
-            bytes: [0u8; MOST],
-            size: 0,
-            names: Names::none(),
-            is_read: false,
-            is_other: false,
-            is_drawn: false,
+// The file of the tables; the bytes of a plan, which the check may have something against; and the names of its jobs.
+#[derive(Drop)]
+pub struct Pair<'a> {
+    pub path: &'a [u8],
+    pub source: Source,
+    bytes: Vec<u8>,
+    names: Names,
+}
+
+impl Pair<'_> {
+    pub fn plan(&self) -> Plan<'_> {
+        Plan {
+            bytes: &self.bytes,
+            names: &self.names,
         }
     }
 }
 
-// What came of a text of jobs; and whether it was read, or why not was said.
-#[derive(Drop)]
-pub struct Listed {
-    pub jobs: Jobs,
-    pub is_read: bool,
-}
-
 // Reads a text of jobs that stands in a file.
-fn jobs_in(rt: &HostRuntime, path: &[u8], text: &[u8]) -> Listed {
-    let jobs = jobtext::read(text);
-    if jobs.line != 0 {
-        complain(jobtext::put_mistake(Page::errors(rt), path, &jobs));
-    }
-    let is_read = jobs.line == 0;
-    Listed {
-        jobs: jobs,
-        is_read: is_read,
+pub fn jobs_in(rt: &HostRuntime, path: &[u8], text: &[u8]) -> Option<Jobs> {
+    match jobtext::read(rt.alloc(), text) {
+        Ok(jobs) => Some(jobs),
+        Err(mistake) => {
+            complain(jobtext::put_mistake(Page::errors(rt), path, &mistake));
+            None
+        }
     }
 }
 
 // Reads a file of jobs.
-pub fn read_jobs(rt: &HostRuntime, path: &[u8]) -> Listed {
-    let file = files::read(rt, path);
-    if !file.is_read {
-        return Listed {
-            jobs: Jobs::none(),
-            is_read: false,
-        };
-    }
-    let bytes = file.bytes;
-    jobs_in(rt, path, part(&bytes, 0, file.size))
+pub fn read_jobs(rt: &HostRuntime, path: &[u8]) -> Option<Jobs> {
+    let text = files::read(rt, path)?;
+    jobs_in(rt, path, &text)
 }
 
-// The names of a plan's jobs; whether they were found, or why not was said; and whether they are of another list.
-#[derive(Drop)]
-pub struct Named {
-    pub names: Names,
-    pub is_read: bool,
-    pub is_other: bool,
+// The bytes of a plan file, with the names of its jobs; they go by their numbers, where no text is given.
+fn named<'a>(
+    rt: &HostRuntime,
+    path: &'a [u8],
+    bytes: Vec<u8>,
+    from: Option<&[u8]>,
+) -> Option<Pair<'a>> {
+    let Some(jobs) = from else {
+        return Some(Pair {
+            path,
+            source: Source::Plan,
+            bytes,
+            names: Names::none(rt.alloc()),
+        });
+    };
+    let Jobs { list, names } = read_jobs(rt, jobs)?;
+    let is_other = list.as_slice() != plans::list_of(&bytes);
+    Some(Pair {
+        path,
+        source: if is_other {
+            Source::PlanOfOther
+        } else {
+            Source::Plan
+        },
+        bytes,
+        names,
+    })
 }
 
-// By their numbers, where no text is given.
-pub fn names_of(rt: &HostRuntime, from: &[u8], plan: &[u8]) -> Named {
-    if from.len() == 0 {
-        return Named {
-            names: Names::none(),
-            is_read: true,
-            is_other: false,
-        };
-    }
-    let listed = read_jobs(rt, from);
-    let jobs = listed.jobs;
-    let list = jobs.list;
-    let names = jobs.names;
-    Named {
-        names: names,
-        is_read: listed.is_read,
-        is_other: !same(part(&list, 0, jobs.size), list_of(plan)),
-    }
-}
-
-// The parts of a pair as a plan has them.
-fn joined(list: &[u8], lo: &[u8], hi: &[u8], names: Names) -> Pair {
-    let mut bytes = [0u8; MOST];
-    let size = plans::join(list, lo, hi, &mut bytes);
-    Pair {
-        bytes: bytes,
-        size: size,
-        names: names,
-        is_read: true,
-        is_other: false,
-        is_drawn: true,
-    }
-}
-
-// The tables of a list, in the text of a file.
-fn tables_in(rt: &HostRuntime, path: &[u8], text: &[u8], list: &[u8], names: Names) -> Pair {
-    let tables = tabletext::read(text, list, names);
-    if tables.line != 0 {
-        complain(tabletext::put_mistake(Page::errors(rt), path, &tables));
-        return Pair::none();
-    }
-    let low = tables.low;
-    let high = tables.high;
-    let slots = list::slots(list);
-    joined(list, part(&low, 0, slots), part(&high, 0, slots), names)
+// A plan file, with the names of its jobs.
+pub fn planned<'a>(rt: &HostRuntime, path: &'a [u8], from: Option<&[u8]>) -> Option<Pair<'a>> {
+    let bytes = files::read(rt, path)?;
+    named(rt, path, bytes, from)
 }
 
 // A list and the file of its tables. Where the list is refused the page says so, and the tables are not looked at.
-fn drawn_for(rt: &HostRuntime, list: &[u8], names: Names, from: &[u8], page: Page) -> Pair {
-    if !plans::is_list(list) {
-        send(plans::put_list_fault(page, list, names));
-        return Pair::none();
+fn with_tables<'a>(rt: &HostRuntime, jobs: Jobs, path: &'a [u8], page: Page) -> Option<Pair<'a>> {
+    let Jobs { list, names } = jobs;
+    if let Err(no) = plans::check_list(&list) {
+        send(words::tell(page, &list, &names, no));
+        return None;
     }
-    let file = files::read(rt, from);
-    if !file.is_read {
-        return Pair::none();
+    let text = files::read(rt, path)?;
+    match tabletext::read(rt.alloc(), &text, &list, &names) {
+        Ok(tables) => match plans::join(rt.alloc(), &list, &tables.low, &tables.high) {
+            Ok(bytes) => Some(Pair {
+                path,
+                source: Source::Drawn,
+                bytes,
+                names,
+            }),
+            Err(e) => {
+                fail(Page::errors(rt), path, e.into());
+                None
+            }
+        },
+        Err(mistake) => {
+            complain(tabletext::put_mistake(Page::errors(rt), path, &mistake));
+            None
+        }
     }
-    let bytes = file.bytes;
-    tables_in(rt, from, part(&bytes, 0, file.size), list, names)
 }
 
-// A file of jobs, which was read, and the file of its tables.
-fn drawn_in(rt: &HostRuntime, path: &[u8], file: File, from: &[u8], page: Page) -> Pair {
-    let bytes = file.bytes;
-    let listed = jobs_in(rt, path, part(&bytes, 0, file.size));
-    if !listed.is_read {
-        return Pair::none();
-    }
-    let jobs = listed.jobs;
-    let list = jobs.list;
-    let names = jobs.names;
-    drawn_for(rt, part(&list, 0, jobs.size), names, from, page)
-}
-
-// A plan file, which was read, and the names of its jobs.
-fn planned(rt: &HostRuntime, file: File, from: &[u8]) -> Pair {
-    let bytes = file.bytes;
-    let named = names_of(rt, from, part(&bytes, 0, file.size));
-    let names = named.names;
-    Pair {
-        bytes: bytes,
-        size: file.size,
-        names: names,
-        is_read: named.is_read,
-        is_other: named.is_other,
-        is_drawn: false,
-    }
+// A file of jobs and the file of its tables.
+pub fn drawn<'a>(rt: &HostRuntime, jobs: &[u8], path: &'a [u8], page: Page) -> Option<Pair<'a>> {
+    with_tables(rt, read_jobs(rt, jobs)?, path, page)
 }
 
 // Whether bytes are a text: every plan has a byte 0, also one that lost its end, and no text has.
 fn is_text(s: &[u8]) -> bool {
-    if s.len() == 0 {
-        return false;
-    }
-    find(s, 0, 0) == s.len()
-}
-
-// A file of jobs and the file of its tables.
-pub fn drawn(rt: &HostRuntime, path: &[u8], from: &[u8], page: Page) -> Pair {
-    let file = files::read(rt, path);
-    if !file.is_read {
-        return Pair::none();
-    }
-    drawn_in(rt, path, file, from, page)
+    !s.is_empty() && !s.contains(&0)
 }
 
 // PLAN [JOBS], or JOBS TABLES: what the first file is decides. The page is for what is against a list.
-pub fn given(rt: &HostRuntime, path: &[u8], from: &[u8], page: Page) -> Pair {
-    let file = files::read(rt, path);
-    if !file.is_read {
-        return Pair::none();
-    }
-    let bytes = file.bytes;
-    if from.len() != 0 {
-        if is_text(part(&bytes, 0, file.size)) {
-            return drawn_in(rt, path, file, from, page);
+pub fn given<'a>(
+    rt: &HostRuntime,
+    path: &'a [u8],
+    from: Option<&'a [u8]>,
+    page: Page,
+) -> Option<Pair<'a>> {
+    let bytes = files::read(rt, path)?;
+    match from {
+        Some(tables) if is_text(&bytes) => {
+            with_tables(rt, jobs_in(rt, path, &bytes)?, tables, page)
         }
+        _ => named(rt, path, bytes, from),
     }
-    planned(rt, file, from)
 }

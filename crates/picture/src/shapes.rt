@@ -60,20 +60,21 @@ pub fn label(page: Page, class: &[u8], x: usize, y: usize, s: &[u8]) -> Page {
 }
 
 // A byte of a name.
-fn put_letter(page: Page, x: u8) -> Page {
-    match x {
+fn put_letter(page: Page, x: &u8) -> Page {
+    match *x {
         b'<' => page.put(b"&lt;"),
         b'>' => page.put(b"&gt;"),
         b'&' => page.put(b"&amp;"),
-        _ => page.put(&[x]),
+        letter => page.put(&[letter]),
     }
 }
 
 pub fn name(page: Page, names: &Names, j: usize) -> Page {
-    if names.size(j) == 0 {
+    let letters = names.letters(j);
+    if letters.is_empty() {
         return names.put(page, j);
     }
-    (0..names.size(j)).fold(page, |to, i| put_letter(to, names.letter(j, i)))
+    letters.iter().fold(page, put_letter)
 }
 
 // A bracket: an upright with a short arm at each end.

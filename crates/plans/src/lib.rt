@@ -2,14 +2,16 @@
 // they are made, and no page needs it.
 #![tactic(auto)]
 
+use drawing::plan::Plan;
 use drawing::put_counts;
 use joblist::{EDGE_BYTES, HEAD_BYTES, JOB_BYTES, MOST_EDGES, MOST_JOBS, MOST_SLOTS};
-use jobtext::Names;
-use merge::Built;
-use page::{Page, less};
+use merge::{BuildWhy, Built};
+use page::Page;
 use planfile::{ReadWhy, Shape, TRAILER_BYTES, WriteWhy};
-use refusal::Refusal;
-use verdict::Spot;
+use std::alloc::{AllocError, Global};
+use text::part;
+use verdict::Objection;
+use words::No;
 
 // No plan has more bytes: the largest list, two tables and the trailer.
 pub const PLAN_ROOM: usize = HEAD_BYTES
@@ -18,170 +20,106 @@ pub const PLAN_ROOM: usize = HEAD_BYTES
     + 2 * MOST_SLOTS
     + TRAILER_BYTES;
 
-// A plan that was made, and how many bytes it has; none where the page says why not.
-#[derive(Drop)]
-pub struct Plan {
-    pub bytes: [u8; PLAN_ROOM],
-    pub size: usize,
-    pub page: Page,
+fn built(list: &[u8], room: &mut [u8]) -> Result<usize, BuildWhy> {
+    match merge::build(list, room) {
+        Built::Plan(k) => Ok(k),
+        Built::No(w) => Err(w),
+    }
 }
 
-fn built(list: &[u8], plan: &mut [u8]) -> Built {
-    merge::build(list, plan)
+fn written(plan: &[u8], room: &mut [u8]) -> Result<usize, WriteWhy> {
+    let list = planfile::list_of(plan);
+    planfile::write(list, planfile::low_of(plan), planfile::high_of(plan), room)
 }
 
-fn answer(plan: &[u8]) -> Result<Shape, ReadWhy> {
+fn read(plan: &[u8]) -> Result<Shape, ReadWhy> {
     planfile::read(plan)
-}
-
-fn wrote(plan: &[u8], out: &mut [u8]) -> Result<usize, WriteWhy> {
-    planfile::write(list_of(plan), low_of(plan), high_of(plan), out)
-}
-
-fn listed(list: &[u8]) -> Result<(), joblist::Why> {
-    joblist::check_list(list)
 }
 
 pub fn list_of(plan: &[u8]) -> &[u8] {
     planfile::list_of(plan)
 }
 
-pub fn low_of(plan: &[u8]) -> &[u8] {
-    planfile::low_of(plan)
+// The bytes of a plan with these parts, whatever the check says of them.
+pub fn join(alloc: Global, list: &[u8], lo: &[u8], hi: &[u8]) -> Result<Vec<u8>, AllocError> {
+    let mut bytes = Vec::new(alloc);
+    bytes.extend_from_slice(list)?;
+    bytes.extend_from_slice(lo)?;
+    bytes.extend_from_slice(hi)?;
+    bytes.extend_from_slice(&[0; TRAILER_BYTES])?;
+    planfile::put_plan(list, lo, hi, &mut bytes);
+    Ok(bytes)
 }
 
-pub fn high_of(plan: &[u8]) -> &[u8] {
-    planfile::high_of(plan)
+// Builds the plan of a list, at the front of a room.
+pub fn build<'a>(list: &[u8], room: &'a mut [u8]) -> Result<&'a [u8], No> {
+    let size = built(list, room)?;
+    Ok(part(room, 0, size))
 }
 
-// The bytes of a plan with these parts, whatever the check says of them; none where there is no room.
-pub fn join(list: &[u8], lo: &[u8], hi: &[u8], out: &mut [u8]) -> usize {
-    let room = less(less(less(out.len(), list.len()), lo.len()), hi.len());
-    if room < TRAILER_BYTES {
-        return 0;
-    }
-    planfile::put_plan(list, lo, hi, out)
+// Writes the plan of the parts that were joined, at the front of a room.
+pub fn write<'a>(plan: &[u8], room: &'a mut [u8]) -> Result<&'a [u8], No> {
+    let size = written(plan, room).map_err(|w| No::of(w))?;
+    Ok(part(room, 0, size))
 }
 
-// Builds the plan of a list.
-pub fn build(page: Page, list: &[u8], names: Names) -> Plan {
-    let mut bytes = [0u8; PLAN_ROOM];
-    match built(list, &mut bytes) {
-        Built::Plan(k) => Plan {
-            bytes: bytes,
-            size: k,
-            page: page,
-        },
-        Built::No(w) => Plan {
-            bytes: bytes,
-            size: 0,
-            page: words::tell(page, list, &names, words::No::from(w)),
-        },
-    }
-}
-
-fn unwritten(page: Page, plan: &[u8], names: Names, w: WriteWhy) -> Page {
-    let no = words::at_spot(w.number(), w.place());
-    words::tell(page, list_of(plan), &names, no)
-}
-
-// Writes the plan of the parts that were joined.
-pub fn write(page: Page, plan: &[u8], names: Names) -> Plan {
-    let mut bytes = [0u8; PLAN_ROOM];
-    match wrote(plan, &mut bytes) {
-        Ok(k) => Plan {
-            bytes: bytes,
-            size: k,
-            page: page,
-        },
-        Err(w) => Plan {
-            bytes: bytes,
-            size: 0,
-            page: unwritten(page, plan, names, w),
-        },
-    }
-}
-
-pub fn is_list(list: &[u8]) -> bool {
-    match listed(list) {
-        Ok(()) => true,
-        Err(_) => false,
-    }
-}
-
-// Why a list is none; nothing where it is one.
-pub fn put_list_fault(page: Page, list: &[u8], names: Names) -> Page {
-    match listed(list) {
-        Ok(()) => page,
-        Err(w) => {
-            let no = words::at_spot(joblist::number_of(w), Spot::InList(joblist::place_of(w)));
-            words::tell(page, list, &names, no)
-        }
-    }
-}
-
-// The number of a plan's refusal: 0 where it is accepted.
-fn refusal_number(plan: &[u8]) -> usize {
-    refusal::answer_number(answer(plan))
+// Whether bytes are a list; why not.
+pub fn check_list(list: &[u8]) -> Result<(), No> {
+    joblist::check_list(list).map_err(|w| No::of(w))
 }
 
 pub fn is_accepted(plan: &[u8]) -> bool {
-    refusal_number(plan) == 0
+    read(plan).is_ok()
+}
+
+// Whether the check finds a fault in the tables of a plan that is whole.
+fn is_fault(w: ReadWhy) -> bool {
+    matches!(w, ReadWhy::Checked(Objection::Bad(_)))
 }
 
 // Whether a plan is whole, though the check may find a fault in its tables.
 pub fn is_whole(plan: &[u8]) -> bool {
-    let n = refusal_number(plan);
-    if n == 0 {
-        return true;
+    match read(plan) {
+        Ok(_) => true,
+        Err(w) => is_fault(w),
     }
-    if n < 10 {
-        return false;
-    }
-    n < 13
+}
+
+fn put_no(page: Page, plan: Plan, w: ReadWhy) -> Page {
+    words::tell(page, plan.list(), plan.names, No::of(w))
 }
 
 // The fault of a plan, or why it is none; nothing where it is accepted.
-pub fn put_fault(page: Page, plan: &[u8], names: Names) -> Page {
-    match answer(plan) {
+pub fn put_fault(page: Page, plan: Plan) -> Page {
+    match read(plan.bytes) {
         Ok(_) => page,
-        Err(w) => {
-            let no = words::at_spot(w.number(), w.place());
-            words::tell(page, list_of(plan), &names, no)
-        }
+        Err(w) => put_no(page, plan, w),
     }
 }
 
 // The counts of a plan, after a yes.
 pub fn put_yes(page: Page, path: &[u8], plan: &[u8]) -> Page {
-    let named = page
-        .put(b"yes: ")
-        .put(path)
-        .put(b", ")
-        .count(plan.len(), b"byte")
-        .put(b": ");
-    put_counts(named, list_of(plan)).end()
+    let named = page.put(b"yes: ").put(path).put(b", ");
+    let counted = named.count(plan.len(), b"byte").put(b": ");
+    put_counts(counted, list_of(plan)).end()
+}
+
+// Where to see the fault happen.
+fn put_why(page: Page, path: &[u8]) -> Page {
+    words::label(page, b"why").put(b"desk why ").put(path)
+}
+
+fn put_night(page: Page) -> Page {
+    page.line(b" shows a night on which it happens")
 }
 
 // Yes, or the fault.
-pub fn put_check(page: Page, path: &[u8], plan: &[u8], names: Names) -> Page {
-    if is_accepted(plan) {
-        return put_yes(page, path, plan);
+pub fn put_check(page: Page, path: &[u8], plan: Plan) -> Page {
+    match read(plan.bytes) {
+        Ok(_) => put_yes(page, path, plan.bytes),
+        Err(w) if is_fault(w) => put_night(put_why(put_no(page, plan, w), path)),
+        Err(w) => put_no(page, plan, w),
     }
-    let told = put_fault(page, plan, names);
-    if is_whole(plan) {
-        return put_why(told, path, b"");
-    }
-    told
-}
-
-// Where to see the fault happen: of a plan, or of a list with its tables.
-fn put_why(page: Page, path: &[u8], tables: &[u8]) -> Page {
-    let mut to = words::label(page, b"why").put(b"desk why ").put(path);
-    if tables.len() != 0 {
-        to = to.put(b" ").put(tables);
-    }
-    to.line(b" shows a night on which it happens")
 }
 
 // There is no such night.
@@ -191,20 +129,21 @@ pub fn put_good(page: Page, path: &[u8]) -> Page {
 }
 
 // Yes, or the fault, of two tables that were drawn by hand and are no plan yet.
-pub fn put_drawn(page: Page, jobs: &[u8], path: &[u8], plan: &[u8], names: Names) -> Page {
-    if is_accepted(plan) {
-        let named = page.put(b"yes: ").put(path).put(b": ");
-        return put_counts(named, list_of(plan)).end();
+pub fn put_drawn(page: Page, jobs: &[u8], path: &[u8], plan: Plan) -> Page {
+    match read(plan.bytes) {
+        Ok(_) => {
+            let named = page.put(b"yes: ").put(path).put(b": ");
+            put_counts(named, plan.list()).end()
+        }
+        Err(w) => {
+            let to = put_why(put_no(page, plan, w), jobs);
+            put_night(to.put(b" ").put(path))
+        }
     }
-    put_why(put_fault(page, plan, names), jobs, path)
 }
 
 // Both tables, with the fault where there is one.
-pub fn put_show(page: Page, plan: &[u8], names: Names) -> Page {
+pub fn put_show(page: Page, plan: Plan) -> Page {
     let in_colour = page.is_terminal();
-    put_fault(
-        drawing::put_tables(page, plan, names, in_colour),
-        plan,
-        names,
-    )
+    put_fault(drawing::put_tables(page, plan, in_colour), plan)
 }

@@ -5,4 +5,4 @@ mod number;
 mod told;
 
 pub use number::{advice, meaning, table};
-pub use told::{No, at_spot, label, tell};
+pub use told::{At, No, label, tell};

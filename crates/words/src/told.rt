@@ -4,7 +4,40 @@ use joblist::Place;
 use jobtext::{Names, put_edge};
 use merge::{BuildPlace, BuildWhy};
 use page::Page;
+use refusal::Refusal;
 use verdict::{Fault, Objection, Spot};
+
+// A place: one of the check's; the builder's slot and job; or what the check has against the pair that was built.
+#[derive(Clone, Copy)]
+pub enum At {
+    Spot(Spot),
+    Job(usize, usize),
+    Checked(Objection),
+}
+
+impl From<Place> for At {
+    fn from(p: Place) -> Self {
+        At::Spot(Spot::InList(p))
+    }
+}
+
+impl From<Spot> for At {
+    fn from(s: Spot) -> Self {
+        At::Spot(s)
+    }
+}
+
+impl From<BuildPlace> for At {
+    fn from(p: BuildPlace) -> Self {
+        match p {
+            BuildPlace::InList(q) => At::from(q),
+            BuildPlace::AtJob(t, j) => At::Job(t, j),
+            BuildPlace::AtSlot(t) => At::Spot(Spot::AtSlot(t)),
+            BuildPlace::Answer(Ok(())) => At::from(Place::Nowhere),
+            BuildPlace::Answer(Err(o)) => At::Checked(o),
+        }
+    }
+}
 
 // A refusal: its number and its place.
 #[derive(Clone, Copy)]
@@ -13,22 +46,14 @@ pub struct No {
     at: At,
 }
 
-// A place: one of the check's; the builder's slot and job; or what the check has against the pair that was built.
-#[derive(Clone, Copy)]
-enum At {
-    Spot(Spot),
-    Job(usize, usize),
-    Checked(Objection),
-}
-
-impl From<BuildPlace> for At {
-    fn from(p: BuildPlace) -> Self {
-        match p {
-            BuildPlace::InList(q) => At::Spot(Spot::InList(q)),
-            BuildPlace::AtJob(t, j) => At::Job(t, j),
-            BuildPlace::AtSlot(t) => At::Spot(Spot::AtSlot(t)),
-            BuildPlace::Answer(Ok(())) => At::Spot(Spot::InList(Place::Nowhere)),
-            BuildPlace::Answer(Err(o)) => At::Checked(o),
+impl No {
+    pub fn of<W: Refusal>(why: W) -> Self
+    where
+        At: From<W::Place>,
+    {
+        No {
+            number: why.number(),
+            at: At::from(why.place()),
         }
     }
 }
@@ -40,14 +65,6 @@ impl From<BuildWhy> for No {
             number: merge::why_number(w),
             at: At::from(merge::why_place(w)),
         }
-    }
-}
-
-// A number with the place that the check gives it.
-pub fn at_spot(number: usize, s: Spot) -> No {
-    No {
-        number,
-        at: At::Spot(s),
     }
 }
 
@@ -80,7 +97,7 @@ impl Jobs<'_> {
     }
 
     fn put_edge(&self, page: Page, e: usize) -> Page {
-        put_edge(label(page, b"edge"), self.list, *self.names, e).end()
+        put_edge(label(page, b"edge"), self.list, self.names, e).end()
     }
 
     fn put_job_in_slot(&self, page: Page, t: usize, j: usize) -> Page {
@@ -111,9 +128,9 @@ impl Jobs<'_> {
 
     // The check's number, where it stands behind the builder's 24, and its place.
     fn put_checked(&self, page: Page, o: Objection) -> Page {
-        let n = verdict::number_of(o);
+        let n = o.number();
         let to = label(page, b"the check").number(n).put(b": ");
-        self.put_spot(number::meaning(to, n).end(), verdict::place_of(o))
+        self.put_spot(number::meaning(to, n).end(), o.place())
     }
 
     fn put_place(&self, page: Page, at: At) -> Page {

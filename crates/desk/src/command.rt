@@ -1,0 +1,111 @@
+// The words of a command, and what they ask for.
+
+// PLAN [JOBS], or JOBS TABLES.
+#[derive(Clone, Copy)]
+pub(crate) struct Given<'a> {
+    pub path: &'a [u8],
+    pub from: Option<&'a [u8]>,
+}
+
+// How a plan is shown.
+#[derive(Clone, Copy)]
+pub(crate) enum Look {
+    Text,
+    Picture,
+}
+
+// A text of ticks, or how many are made here.
+#[derive(Clone, Copy)]
+pub(crate) enum Ticks<'a> {
+    In(&'a [u8]),
+    Made(&'a [u8]),
+}
+
+// The files and words of each command stand in the order of the help.
+#[derive(Clone, Copy)]
+pub(crate) enum Command<'a> {
+    Help,
+    Demo,
+    Build(&'a [u8], &'a [u8]),
+    Write(&'a [u8], &'a [u8], &'a [u8]),
+    Check(Given<'a>),
+    Show(Given<'a>, Look),
+    Why(Given<'a>, Look),
+    Run(&'a [u8], Ticks<'a>, Option<&'a [u8]>),
+    List(&'a [u8]),
+    Tables(Given<'a>),
+    C(&'a [u8], &'a [u8]),
+    Log(&'a [u8], &'a [u8], &'a [u8]),
+    Words,
+}
+
+// A word that may be left out.
+fn some(word: &[u8]) -> Option<&[u8]> {
+    if word.is_empty() { None } else { Some(word) }
+}
+
+impl<'a> Given<'a> {
+    fn new(path: &'a [u8], from: &'a [u8]) -> Self {
+        Given {
+            path,
+            from: some(from),
+        }
+    }
+}
+
+// The mark of a picture stands before the files, between them or behind them.
+fn looked<'a>(a: &'a [u8], b: &'a [u8], c: &'a [u8]) -> (Given<'a>, Look) {
+    let mark = b"--svg".as_slice();
+    if a == mark {
+        (Given::new(b, c), Look::Picture)
+    } else if b == mark {
+        (Given::new(a, c), Look::Picture)
+    } else if c == mark {
+        (Given::new(a, b), Look::Picture)
+    } else {
+        (Given::new(a, b), Look::Text)
+    }
+}
+
+impl<'a> Command<'a> {
+    fn show(a: &'a [u8], b: &'a [u8], c: &'a [u8]) -> Self {
+        let (given, look) = looked(a, b, c);
+        Command::Show(given, look)
+    }
+
+    fn why(a: &'a [u8], b: &'a [u8], c: &'a [u8]) -> Self {
+        let (given, look) = looked(a, b, c);
+        Command::Why(given, look)
+    }
+
+    // Ticks are made here after a mark, and else they stand in a file.
+    fn run(plan: &'a [u8], a: &'a [u8], b: &'a [u8], c: &'a [u8]) -> Self {
+        if a == b"--demo".as_slice() {
+            Command::Run(plan, Ticks::Made(b), some(c))
+        } else {
+            Command::Run(plan, Ticks::In(a), some(b))
+        }
+    }
+
+    // What the words ask for: those that are not given are empty.
+    pub(crate) fn of(words: [&'a [u8]; 5]) -> Self {
+        match words {
+            [b"demo", ..] => Command::Demo,
+            [b"words", ..] => Command::Words,
+            [_, b"", ..] => Command::Help,
+            [b"check", path, from, ..] => Command::Check(Given::new(path, from)),
+            [b"show", a, b, c, _] => Command::show(a, b, c),
+            [b"why", a, b, c, _] => Command::why(a, b, c),
+            [b"tables", path, from, ..] => Command::Tables(Given::new(path, from)),
+            [b"list", plan, ..] => Command::List(plan),
+            [_, _, b"", ..] => Command::Help,
+            [b"build", jobs, to, ..] => Command::Build(jobs, to),
+            [b"run", plan, a, b, c] => Command::run(plan, a, b, c),
+            [b"c", plan, name, ..] => Command::C(plan, name),
+            [b"log", store, word, given, _] => Command::Log(store, word, given),
+            [_, _, _, b"", _] => Command::Help,
+            [b"write", jobs, tables, to, _] => Command::Write(jobs, tables, to),
+            _ => Command::Help,
+        }
+    }
+}
