@@ -1,4 +1,4 @@
-// The search for the first fault: table LO with every job using CLO, then table HI behind each switch. All of it is inner.
+//! The search for the first fault: table LO with every job using CLO, then table HI behind each switch. All of it is inner.
 ghost use Rattle.std.specs.Prelude.{◌≡◌, cond, ◌+◌, ◌-◌, ◌<◌, ◌≤◌, length, replicate, eqb};
 ghost use Rattle.basics.specs.Limits.{first_edition};
 ghost use Rattle.basics.specs.Units.{units_of};
@@ -11,12 +11,12 @@ ghost use Rattle.verdict.specs.FrameOf.{frame_with};
 ghost use Rattle.verdict.specs.Inner.{told, chain_of, Steady, Rising};
 
 use crate::Fault;
-use crate::count::{entry_at, move_on};
+use crate::count::{Counts, entry_at};
 use crate::jobs::{Jobs, square_of};
 use crate::slot::Opening;
 use joblist::MOST_JOBS;
 
-// What is searched: two tables, in so many slots.
+/// What is searched: two tables, in so many slots.
 #[derive(Clone, Copy)]
 struct Search<'a> {
     jobs: Jobs<'a>,
@@ -30,14 +30,14 @@ struct Search<'a> {
 impl<'a> Search<'a> {
     ghost use Rattle.verdict.specs.Searched.{frame_in};
 
-    // The table of a mode.
+    /// The table of a mode.
     fn table(&self, mode: usize) -> &'a [u8]
         ensures { result.now ≡ cond (eqb mode 0) self.now.lo.now self.now.hi.now }
     {
         if mode == 0 { self.lo } else { self.hi }
     }
 
-    // The slots from `from` on in one mode, after a switch: a loop yielding the fault by break.
+    /// The slots from `from` on in one mode, after a switch: a loop yielding the fault by break.
     fn scan_from(
         &self,
         units: [usize; MOST_JOBS],
@@ -80,33 +80,33 @@ impl<'a> Search<'a> {
         }
     }
 
-    // Each switch, by rising slot: table HI from the slot after it; again a loop yielding the fault by break.
-    // The entries of table LO are counted once, as the slots go by.
+    /// Each switch, by rising slot: table HI from the slot after it; again a loop yielding the fault by break.
+    /// The entries of table LO are counted once, as the slots go by.
     fn switches_from(&self) -> Result<(), Fault>
         requires { Rising self.now.jobs.list.now self.now.jobs.count }
         ensures { result ≡ told (each_switch (frame_in self.now) self.now.slots 0 (replicate self.now.jobs.count 0)) }
     {
-        let mut counts = [0; MOST_JOBS];
-        let mut t = 0;
+        let mut counts = Counts::at_first(self.lo);
         'switches: loop {
-            if self.slots <= t {
+            let slot = counts.slot;
+            if self.slots <= slot {
                 break Ok(());
             }
-            let j = entry_at(self.lo, t);
-            move_on(&mut counts, self.lo, t);
-            if self.jobs.switches_at(self.lo, &counts, t, j) {
-                let had = self.jobs.units_before(self.lo, &counts, t + 1);
+            let j = entry_at(self.lo, slot);
+            let switches = self.jobs.switches_at(&counts, j);
+            counts.move_on();
+            if switches {
+                let had = self.jobs.units_before(&counts);
                 let need = self.jobs.needs_after(&had, j);
-                if let Err(fault) = self.scan_from(had, &need, 1, t + 1, t) {
+                if let Err(fault) = self.scan_from(had, &need, 1, slot + 1, slot) {
                     break Err(fault);
                 }
             }
-            t += 1;
         }
     }
 }
 
-// The whole search.
+/// The whole search.
 pub(crate) fn search_tables<'a>(
     list: &'a [u8],
     lo: &'a [u8],

@@ -1,18 +1,18 @@
-// The jobs of a list as the search sees them: what each needs, and what each has had in table LO. All of it is inner.
+//! The jobs of a list as the search sees them: what each needs, and what each has had in table LO. All of it is inner.
 ghost use Rattle.std.specs.Prelude.{◌≡◌, [], cond, not, ◌&&◌, ℕ, ◌+◌, ◌<◌, ◌≤◌, min, length, leb};
 ghost use Rattle.basics.specs.Limits.{first_edition};
 ghost use Rattle.basics.specs.Units.{units_of};
 ghost use Rattle.joblist.specs.Fields.{job_at, list_bytes, ordinary, edge_in};
 ghost use Rattle.joblist.specs.Cycle.{Named};
 ghost use Rattle.frame.specs.TwoLevels.{needs_hi};
-ghost use Rattle.verdict.specs.Count.{entry_at, entries_in, Running};
+ghost use Rattle.verdict.specs.Count.{entries_in};
 ghost use Rattle.verdict.specs.Inner.{edge_at, square, switches_at};
 
 use crate::PAIRS;
-use crate::count::entries_so_far;
+use crate::count::Counts;
 use joblist::{MOST_JOBS, edge_from, edge_to, high_of, level_of, ordinary_of};
 
-// The jobs of a list, where they stand in its bytes, and its edges as a square of bits: in the row of q, whether p comes before it.
+/// The jobs of a list, where they stand in its bytes, and its edges as a square of bits: in the row of q, whether p comes before it.
 #[derive(Clone, Copy)]
 pub(crate) struct Jobs<'a> {
     pub(crate) list: &'a [u8],
@@ -22,7 +22,7 @@ pub(crate) struct Jobs<'a> {
     pub(crate) ghost whole: { job_at count ≤ length list.now },
 }
 
-// The edges as a square of bits.
+/// The edges as a square of bits.
 pub(crate) fn square_of(list: &[u8], n: usize, m: usize) -> [bool; PAIRS]
     requires few { n ≤ first_edition.jobs }
     requires whole { list_bytes n m ≤ length list.now }
@@ -38,7 +38,7 @@ pub(crate) fn square_of(list: &[u8], n: usize, m: usize) -> [bool; PAIRS]
     square
 }
 
-// What a job needs after a switch, which is its own or another's.
+/// What a job needs after a switch, which is its own or another's.
 fn need_after(own: bool, had: usize, clo: usize, chi: usize) -> usize
     ensures { result ≡ cond (not own && leb clo had) clo chi }
 {
@@ -46,7 +46,7 @@ fn need_after(own: bool, had: usize, clo: usize, chi: usize) -> usize
 }
 
 impl Jobs<'_> {
-    // What each job needs in LO.
+    /// What each job needs in LO.
     pub(crate) fn needs_at_first(&self) -> [usize; MOST_JOBS]
         ensures { (i : ℕ) → i < self.now.count → units_of result i ≡ ordinary self.now.list.now i }
     {
@@ -57,24 +57,18 @@ impl Jobs<'_> {
         need
     }
 
-    // The units that each job has had before a slot, where each uses CLO and none has switched.
-    pub(crate) fn units_before(
-        &self,
-        lo: &[u8],
-        counts: &[usize; MOST_JOBS],
-        slot: usize,
-    ) -> [usize; MOST_JOBS]
-        requires { Running first_edition.jobs lo.now counts.now slot }
-        ensures { (i : ℕ) → i < self.now.count → units_of result i ≡ min (ordinary self.now.list.now i) (entries_in lo.now i slot) }
+    /// The units that each job has had in table LO so far, where each uses CLO and none has switched.
+    pub(crate) fn units_before(&self, lo: &Counts) -> [usize; MOST_JOBS]
+        ensures { (i : ℕ) → i < self.now.count → units_of result i ≡ min (ordinary self.now.list.now i) (entries_in lo.now.table.now i lo.now.slot) }
     {
         let mut had = [0; MOST_JOBS];
         for i in 0..self.count {
-            had[i] = ordinary_of(self.list, i).min(entries_so_far(counts, lo, i, slot));
+            had[i] = ordinary_of(self.list, i).min(lo.entries_so_far(i));
         }
         had
     }
 
-    // What each job needs after k switched.
+    /// What each job needs after k switched.
     pub(crate) fn needs_after(&self, had: &[usize; MOST_JOBS], k: usize) -> [usize; MOST_JOBS]
         ensures { (i : ℕ) → i < self.now.count → units_of result i ≡ needs_hi (square self.now.list.now self.now.count []) had.now k i }
     {
@@ -90,22 +84,14 @@ impl Jobs<'_> {
         need
     }
 
-    // Whether slot t has a switch: its entry j is a high job with CHI > CLO at its CLO-th unit.
-    pub(crate) fn switches_at(
-        &self,
-        lo: &[u8],
-        counts: &[usize; MOST_JOBS],
-        t: usize,
-        j: usize,
-    ) -> bool
-        requires slot { (t < first_edition.slots) × (t < length lo.now) }
-        requires entry { j ≡ entry_at lo.now t }
-        requires running { Running first_edition.jobs lo.now counts.now (t + 1) }
-        ensures { result ≡ switches_at self.now.list.now self.now.count lo.now t j }
+    /// Whether the slot has a switch: its entry j in table LO is a high job with CHI > CLO at its CLO-th unit.
+    pub(crate) fn switches_at(&self, lo: &Counts, j: usize) -> bool
+        requires { lo.now.slot < first_edition.slots }
+        ensures { result ≡ switches_at self.now.list.now self.now.count lo.now.table.now lo.now.slot j }
     {
         j < self.count
             && level_of(self.list, j) == 1
             && ordinary_of(self.list, j) < high_of(self.list, j)
-            && entries_so_far(counts, lo, j, t + 1) == ordinary_of(self.list, j)
+            && lo.entries_so_far(j) + 1 == ordinary_of(self.list, j)
     }
 }

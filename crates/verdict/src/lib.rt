@@ -1,4 +1,4 @@
-// The check of a list and its two tables.
+//! The check of a list and its two tables.
 #![tactic(auto)]
 
 ghost use Rattle.std.specs.Prelude.{◌≡◌, Ok, not, ◌||◌, eqb, ltb};
@@ -19,14 +19,14 @@ mod faults;
 mod jobs;
 mod slot;
 
-// The idle mark, as wide as an entry is read.
+/// The idle mark, as wide as an entry is read.
 pub(crate) const IDLE: usize = Table::IDLE as usize;
 
-// The pairs of jobs.
+/// The pairs of jobs.
 pub(crate) const PAIRS: usize = MOST_JOBS * MOST_JOBS;
 
-// A fault: slot, job, the predecessor where it is one, and the switch slot.
-#[derive(Clone, Copy)]
+/// A fault: slot, job, the predecessor where it is one, and the switch slot.
+#[derive(Clone, Copy, Debug, PartialEq, Eq)]
 pub enum Fault {
     Late(usize, usize, usize),
     Early(usize, usize, usize),
@@ -34,12 +34,12 @@ pub enum Fault {
 }
 
 impl Fault {
-    // The switch slot of a fault before which no switch was made.
+    /// The switch slot of a fault before which no switch was made.
     pub const NO_SWITCH: usize = 65535;
 }
 
-// Why the check says no: the list is refused, a table is not of L bytes, an entry names no job, or an execution goes wrong.
-#[derive(Clone, Copy)]
+/// Why the check says no: the list is refused, a table is not of L bytes, an entry names no job, or an execution goes wrong.
+#[derive(Clone, Copy, Debug, PartialEq, Eq)]
 pub enum Objection {
     OfList(Why),
     Size,
@@ -47,7 +47,7 @@ pub enum Objection {
     Bad(Fault),
 }
 
-// The check's answer: yes, or what it objects to.
+/// The check's answer: yes, or what it objects to.
 pub type Verdict = Result<(), Objection>;
 
 impl From<Why> for Objection {
@@ -60,8 +60,8 @@ impl From<Why> for Objection {
     }
 }
 
-// Where the check says no.
-#[derive(Clone, Copy)]
+/// Where the check says no.
+#[derive(Clone, Copy, Debug, PartialEq, Eq)]
 pub enum Spot {
     InList(Place),
     AtSlot(usize),
@@ -126,7 +126,7 @@ impl Refusal for Objection {
     }
 }
 
-// The number of a fault, for callers that do not name the trait.
+/// The number of a fault, for callers that do not name the trait.
 pub fn fault_number(f: Fault) -> usize
     ensures { result ≡ fault_number f }
 {
@@ -151,14 +151,14 @@ pub fn answer_number(v: Verdict) -> usize
     refusal::answer_number(v)
 }
 
-// Whether an entry is neither idle nor one of n jobs.
+/// Whether an entry is neither idle nor one of n jobs.
 fn is_odd(j: usize, n: usize) -> bool
     ensures { result ≡ not (ltb j n || eqb j idle) }
 {
     n <= j && j != IDLE
 }
 
-// The first entry of a table that is neither idle nor a job.
+/// The first entry of a table that is neither idle nor a job.
 fn first_odd(table: &[u8], n: usize) -> Option<usize>
     ensures { result ≡ first_of (odd_entry table.now n) }
 {
@@ -167,7 +167,7 @@ fn first_odd(table: &[u8], n: usize) -> Option<usize>
         .position(|&entry| is_odd(usize::from(entry), n))
 }
 
-// The two tables of a good list.
+/// The two tables of a good list.
 fn check_tables(list: &[u8], lo: &[u8], hi: &[u8]) -> Verdict
     requires { list_answer first_edition list.now ≡ Ok tt }
     ensures { result ≡ tables_answer list.now lo.now hi.now }
@@ -190,7 +190,7 @@ fn check_tables(list: &[u8], lo: &[u8], hi: &[u8]) -> Verdict
     faults::search_tables(list, lo, hi, n, m, l).map_err(Objection::Bad)
 }
 
-// The check of a list and two tables.
+/// The check of a list and two tables.
 #[tactic(auto, unfolding(crate::specs::Answer::check_of))]
 pub fn check(list: &[u8], lo: &[u8], hi: &[u8]) -> Verdict
     ensures { result ≡ check_of first_edition list.now lo.now hi.now }

@@ -8,4 +8,4 @@ use Rattle.verdict.specs.Count.{entries_in}
 use Rattle.verdict.proofs.jobs.Jobs.units_before.Given as goal
 
 abbrev pub invariant-loop-i : goal.invariant-loop-i
-invariant-loop-i l = (length l.had ≡ first_edition.jobs) × ((k : ℕ) → k < l.i → units_of l.had k ≡ min (ordinary l.self.list.now k) (entries_in l.lo k l.slot))
+invariant-loop-i l = (length l.had ≡ first_edition.jobs) × ((k : ℕ) → k < l.i → units_of l.had k ≡ min (ordinary l.self.list.now k) (entries_in l.lo.table.now k l.lo.slot))
