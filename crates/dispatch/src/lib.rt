@@ -1,4 +1,4 @@
-// The dispatcher: a state, made of a plan's bytes, and the step that each tick takes.
+//! The dispatcher: a state, made of a plan's bytes, and the step that each tick takes.
 #![tactic(auto)]
 
 pub mod open;

@@ -1,4 +1,4 @@
-// Opening: the bytes of a plan that the reader accepts, to a fresh state.
+//! Opening: the bytes of a plan that the reader accepts, to a fresh state.
 ghost use Rattle.std.specs.Prelude.{◌≡◌, ℕ, ◌+◌, ◌*◌, ◌≤◌, ◌++◌, length, get_or};
 ghost use Rattle.basics.specs.Bytes.{u16_at};
 ghost use Rattle.basics.specs.Limits.{first_edition};
@@ -74,7 +74,7 @@ fn fields(list: &[u8], lo: &[u8], hi: &[u8]) -> Plan
     }
 }
 
-// A plan's bytes and the first tick: the reader's answer, with a fresh state, or with the all-zero state where it refuses.
+/// A plan's bytes and the first tick: the reader's answer, with a fresh state, or with the all-zero state where it refuses.
 #[tactic(auto, using(crate::proofs::Opened::fields_fit, crate::proofs::Opened::open_yes, crate::proofs::Opened::open_no))]
 pub fn open(plan: &[u8], first: u16) -> Opened
     ensures { result ≡ open_of first_edition plan.now first }

@@ -1,4 +1,4 @@
-// The state: a plan, which no step changes; the head; and the counts and marks of the jobs. It has no padding.
+//! The state: a plan, which no step changes; the head; and the counts and marks of the jobs. It has no padding.
 ghost use Rattle.std.specs.Prelude.{◌≡◌};
 ghost use Rattle.basics.specs.Limits.{first_edition};
 ghost use Rattle.dispatch.specs.State.{fresh_of, no_state, step_of};
@@ -27,7 +27,7 @@ pub struct Stepped {
 }
 
 impl State {
-    // At opening: nothing has run.
+    /// At opening: nothing has run.
     #[tactic(auto, unfolding(crate::specs::State::fresh_of, machine::specs::Machine::fresh_run))]
     pub fn fresh(plan: Plan, first: u16) -> Self
         ensures { result ≡ fresh_of first_edition plan first }
@@ -41,7 +41,7 @@ impl State {
         }
     }
 
-    // All zero: a step on it says 37.
+    /// All zero: a step on it says 37.
     #[tactic(auto, unfolding(crate::specs::State::no_state))]
     pub fn zero() -> Self
         ensures { result ≡ no_state first_edition }
@@ -55,8 +55,8 @@ impl State {
         }
     }
 
-    // One tick, with whether the job ordered last signalled its end. By value: whoever keeps a state in one place calls
-    // `machine::step` on its parts, which copies no array.
+    /// One tick, with whether the job ordered last signalled its end. By value: whoever keeps a state in one place calls
+    /// `machine::step` on its parts, which copies no array.
     pub fn step(mut self, tick: u16, ended: bool) -> Stepped
         ensures { result ≡ step_of first_edition self tick ended }
     {

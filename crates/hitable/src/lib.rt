@@ -1,4 +1,4 @@
-// Table HI. All functions here are inner ones: they are called on lists that the list's check accepts, and on tables of L bytes.
+//! Table HI. All functions here are inner ones: they are called on lists that the list's check accepts, and on tables of L bytes.
 #![tactic(auto)]
 
 ghost use Rattle.std.specs.Prelude.{◌≡◌, [], ◌∷◌, ◌++◌, ℕ, ◌+◌, ◌*◌, ◌<◌, ◌≤◌, length, replicate, MatchOption};
@@ -121,7 +121,7 @@ fn further_of(list: List<'_>, placed: &[u16; MOST_JOBS], u: u8) -> u16
     0
 }
 
-// Table HI into out, from table LO and THI as first made.
+/// Table HI into out, from table LO and THI as first made.
 pub fn table_hi(list: List<'_>, lo: &[u8], thi: &[u8], out: &mut [u8])
     requires { (length lo.now ≡ slots list.bytes.now) × (length thi.now ≡ slots list.bytes.now) × (length out.old ≡ slots list.bytes.now) }
     ensures { out.new ≡ (hi_at list.entry.bytes.now lo.now thi.now out.old (slots list.entry.bytes.now)).table }

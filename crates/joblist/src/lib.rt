@@ -1,4 +1,4 @@
-// A job list in bytes: its fields, its limits, and the check that refuses what is no list.
+//! A job list in bytes: its fields, its limits, and the check that refuses what is no list.
 #![tactic(auto)]
 
 ghost use Rattle.std.specs.Prelude.{◌≡◌, Bool, true, false, ℕ, ◌+◌, ◌<◌, ◌≤◌, length, get_or};
@@ -8,12 +8,12 @@ ghost use Rattle.basics.specs.Limits.{first_edition};
 ghost use Rattle.joblist.specs.Fields.{head_bytes, job_bytes, edge_bytes, job_at, edge_at, list_bytes, jobs, edges, slots, head_zero, arrival, deadline, ordinary, high, level, job_zero, edge_from, edge_to};
 ghost use Rattle.joblist.specs.Cycle.{reached, cyclic, Named};
 ghost use Rattle.joblist.specs.Answer.{within, counts_answer, good_times, good_budgets, fields_answer, zero_answer, job_answer, largest, rising, good_pair, edge_answer, body_answer, front_answer, list_answer};
-ghost use Rattle.joblist.specs.Numbers.{number_of, place_of, answer_number, answer_place};
+ghost use Rattle.joblist.specs.Numbers.{number_of, place_of};
 ghost use Rattle.joblist.specs.declared.Place.TheVariants.{Nowhere};
 
 use refusal::Refusal;
 
-// The limits of the first edition.
+/// The limits of the first edition.
 pub const MOST_JOBS: usize = 64;
 
 pub const MOST_EDGES: usize = 256;
@@ -22,23 +22,23 @@ pub const MOST_SLOTS: usize = 1024;
 
 pub const MOST_BUDGET: usize = 1024;
 
-// A slot table: one byte a slot, a job number or the idle mark.
+/// A slot table: one byte a slot, a job number or the idle mark.
 #[derive(Clone, Copy)]
 pub struct Table;
 
 impl Table {
-    // Names no job.
+    /// Names no job.
     pub const IDLE: u8 = 255;
 }
 
-// The bytes of the head, of a job, and of an edge.
+/// The bytes of the head, of a job, and of an edge.
 pub const HEAD_BYTES: usize = 8;
 
 pub const JOB_BYTES: usize = 10;
 
 pub const EDGE_BYTES: usize = 2;
 
-// Why a list is refused, with the job or the edge where it has a place.
+/// Why a list is refused, with the job or the edge where it has a place.
 #[derive(Clone, Copy, Debug, PartialEq, Eq)]
 pub enum Why {
     Short,
@@ -55,7 +55,7 @@ pub enum Why {
     Cycle,
 }
 
-// Where a list is refused.
+/// Where a list is refused.
 #[derive(Clone, Copy, Debug, PartialEq, Eq)]
 pub enum Place {
     Nowhere,
@@ -108,39 +108,8 @@ impl Refusal for Why {
     }
 }
 
-// The number of a refusal, for callers that do not name the trait.
-pub fn number_of(w: Why) -> usize
-    ensures { result ≡ number_of w }
-{
-    w.number()
-}
-
-pub fn place_of(w: Why) -> Place
-    ensures { result ≡ place_of w }
-{
-    w.place()
-}
-
-pub fn answer_number(a: Result<(), Why>) -> usize
-    ensures { result ≡ answer_number a }
-{
-    refusal::answer_number(a)
-}
-
-pub fn answer_place(a: Result<(), Why>) -> Place
-    ensures { result ≡ answer_place a }
-{
-    refusal::answer_place(a)
-}
-
-// From here to `rises`, inner functions that read fields where they stand; crates above use them too.
-pub fn wide(x: u8) -> usize
-    ensures { (result ≡ x) × (result < 256) }
-{
-    usize::from(x)
-}
-
-// The 16 bits at i.
+/// From here to `edge_to`, inner functions that read fields where they stand; crates above use them too.
+/// The 16 bits at i.
 #[tactic(auto, unfolding(basics::specs::Bytes::u16_at))]
 pub fn u16_at(s: &[u8], i: usize) -> usize
     requires { i + 1 < length s.now }
@@ -149,7 +118,7 @@ pub fn u16_at(s: &[u8], i: usize) -> usize
     usize::from(u16::from_le_bytes([s[i], s[i + 1]]))
 }
 
-// The head.
+/// The head.
 pub fn jobs_of(s: &[u8]) -> usize
     requires { head_bytes ≤ length s.now }
     ensures { (result ≡ jobs s.now) × (result < 65536) }
@@ -171,7 +140,7 @@ pub fn slots_of(s: &[u8]) -> usize
     u16_at(s, 4)
 }
 
-// Job j.
+/// Job j.
 pub fn arrival_of(s: &[u8], j: usize) -> usize
     requires { job_at j + job_bytes ≤ length s.now }
     ensures { (result ≡ arrival s.now j) × (result < 65536) }
@@ -207,7 +176,7 @@ pub fn level_of(s: &[u8], j: usize) -> usize
     usize::from(s[HEAD_BYTES + JOB_BYTES * j + 8])
 }
 
-// Edge e, after n jobs.
+/// Edge e, after n jobs.
 pub fn edge_from(s: &[u8], n: usize, e: usize) -> usize
     requires { edge_at n e + edge_bytes ≤ length s.now }
     ensures { (result ≡ edge_from s.now n e) × (result < 256) }
@@ -485,7 +454,7 @@ impl Body<'_> {
     }
 }
 
-// Inner: a list at the front of the bytes, where the counts give `whole` bytes. A plan is checked by it too.
+/// Inner: a list at the front of the bytes, where the counts give `whole` bytes. A plan is checked by it too.
 #[tactic(auto, using(crate::proofs::Rows::counts_good), unfolding(crate::specs::Answer::front_answer))]
 pub fn check_front(s: &[u8], whole: usize) -> Result<(), Why>
     requires { (head_bytes ≤ length s.now) × (list_bytes (jobs s.now) (edges s.now) ≤ whole) }
@@ -501,7 +470,7 @@ pub fn check_front(s: &[u8], whole: usize) -> Result<(), Why>
     body.check()
 }
 
-// The whole list.
+/// The whole list.
 #[tactic(auto, unfolding(crate::specs::Answer::list_answer))]
 pub fn check_list(list: &[u8]) -> Result<(), Why>
     ensures { result ≡ list_answer first_edition list.now }

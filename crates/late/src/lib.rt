@@ -1,4 +1,4 @@
-// The late tables. All functions here are inner ones: they are called on lists that the list's check accepts, and on tables of L bytes.
+//! The late tables. All functions here are inner ones: they are called on lists that the list's check accepts, and on tables of L bytes.
 #![tactic(auto)]
 
 ghost use Rattle.std.specs.Prelude.{◌≡◌, Bool, true, false, not, ◌&&◌, ℕ, ◌+◌, ◌<◌, ◌≤◌, length, get_or, ltb, leb, Ok, IfSome, unwrap_or};
@@ -20,21 +20,21 @@ use joblist::{
     level_of, ordinary_of,
 };
 
-// A list that the list's check accepts.
+/// A list that the list's check accepts.
 #[derive(Clone, Copy)]
 pub struct List<'a> {
     pub bytes: &'a [u8],
     ghost accepted: { Accepted first_edition bytes.now },
 }
 
-// A slot at whose opening a job with that deadline is unfinished, and the lowest such job.
+/// A slot at whose opening a job with that deadline is unfinished, and the lowest such job.
 #[derive(Clone, Copy)]
 pub struct Late {
     pub slot: usize,
     pub job: usize,
 }
 
-// One unit more of job j, where j is one of n jobs.
+/// One unit more of job j, where j is one of n jobs.
 #[tactic(auto, unfolding(basics::specs::Units::one_more))]
 pub fn one_more(n: usize, had: [u16; MOST_JOBS], j: usize) -> [u16; MOST_JOBS]
     requires { (n ≤ first_edition.jobs) × ((i : ℕ) → i < n → units_of had i < 65535) }
@@ -64,7 +64,7 @@ fn followers<F: Fn(usize) -> bool>(list: List<'_>, passes: F) -> [bool; MOST_JOB
     r
 }
 
-// The jobs that have an undone predecessor.
+/// The jobs that have an undone predecessor.
 pub fn waiting_of(list: List<'_>, undone: &[bool; MOST_JOBS]) -> [bool; MOST_JOBS]
     ensures { (j : ℕ) → marked result j ≡ waits list.entry.bytes.now (marked undone.now) j }
 {
@@ -78,7 +78,7 @@ fn next_of(list: List<'_>, j: usize) -> [bool; MOST_JOBS]
     followers(list, |p| p == j)
 }
 
-// The jobs that have had fewer units than they take.
+/// The jobs that have had fewer units than they take.
 pub fn undone_of<F: Fn(usize) -> usize>(
     list: List<'_>,
     had: &[u16; MOST_JOBS],
@@ -262,7 +262,7 @@ fn move_all(list: List<'_>, table: &mut [u8])
     }
 }
 
-// The late table of level v, and the first late job.
+/// The late table of level v, and the first late job.
 pub fn late_table(list: List<'_>, v: usize, out: &mut [u8]) -> Result<(), Late>
     requires { length out.old ≡ slots list.bytes.now }
     ensures { (result ≡ late_answer list.entry.bytes.now v (edf_at list.entry.bytes.now v out.old (slots list.entry.bytes.now)))
@@ -281,7 +281,7 @@ fn is_first(list: List<'_>, had: &[u16; MOST_JOBS], j: usize) -> bool
     j < jobs_of(list.bytes) && usize::from(had[j]) < ordinary_of(list.bytes, j)
 }
 
-// The first units of each job stay, as many as its ordinary budget.
+/// The first units of each job stay, as many as its ordinary budget.
 pub fn keep_first(list: List<'_>, table: &mut [u8])
     requires { length table.old ≡ slots list.bytes.now }
     ensures { table.new ≡ first_units list.entry.bytes.now table.old (slots list.entry.bytes.now) }

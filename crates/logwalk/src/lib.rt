@@ -18,14 +18,14 @@ use verdict::Spot;
 pub const STORE_MOST: usize = 65536;
 
 /// A plan in a store: where it begins, and how many bytes it has.
-#[derive(Clone, Copy)]
+#[derive(Clone, Copy, Debug, PartialEq, Eq)]
 pub struct Span {
     pub start: usize,
     pub size: usize,
 }
 
 /// Why no plan was found.
-#[derive(Clone, Copy)]
+#[derive(Clone, Copy, Debug, PartialEq, Eq)]
 pub enum FindWhy {
     Large,
     Empty,

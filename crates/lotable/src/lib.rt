@@ -1,4 +1,4 @@
-// Table LO. All functions here are inner ones: they are called on lists that the list's check accepts, and on tables of L bytes.
+//! Table LO. All functions here are inner ones: they are called on lists that the list's check accepts, and on tables of L bytes.
 #![tactic(auto)]
 
 ghost use Rattle.std.specs.Prelude.{◌≡◌, Bool, true, false, cond, ℕ, ◌+◌, ◌<◌, ◌≤◌, length, ltb, Ok, Err, Some, None};
@@ -11,14 +11,14 @@ use joblist::{MOST_JOBS, Table, arrival_of, jobs_of, ordinary_of};
 use late::{List, one_more, undone_of, waiting_of};
 use std::mem;
 
-// Where the unit of a slot comes from: a slot of a late table.
+/// Where the unit of a slot comes from: a slot of a late table.
 #[derive(Clone, Copy)]
 pub enum Source {
     Low(usize),
     High(usize),
 }
 
-// Why there is no table LO, with the slot.
+/// Why there is no table LO, with the slot.
 #[derive(Clone, Copy)]
 pub enum Clash {
     BothAt(usize),
@@ -89,7 +89,7 @@ impl Opening<'_> {
     }
 }
 
-// Table LO into out, and what is left of the late tables; up to the first slot with 22 or 23.
+/// Table LO into out, and what is left of the late tables; up to the first slot with 22 or 23.
 pub fn table_lo(
     list: List<'_>,
     low: &mut [u8],

@@ -1,4 +1,4 @@
-// What a step says. A state holds arrays, so it stands beside the answer and not in it.
+//! What a step says. A state holds arrays, so it stands beside the answer and not in it.
 ghost use Rattle.std.specs.Prelude.{◌≡◌};
 ghost use Rattle.joblist.specs.declared.Place.TheVariants.{Nowhere};
 ghost use Rattle.machine.specs.Numbers.{number_of, place_of, halts_of};
@@ -6,8 +6,8 @@ ghost use Rattle.machine.specs.Numbers.{number_of, place_of, halts_of};
 use joblist::Place;
 use refusal::Refusal;
 
-// Why a step is refused, in the order of the tests.
-#[derive(Clone, Copy)]
+/// Why a step is refused, in the order of the tests.
+#[derive(Clone, Copy, Debug, PartialEq, Eq)]
 pub enum Why {
     BadState,
     Halted,
@@ -19,7 +19,7 @@ pub enum Why {
     PastHigh(u8),
 }
 
-// An order, which is a job's number or idle; or why not.
+/// An order, which is a job's number or idle; or why not.
 pub type Answer = Result<u8, Why>;
 
 impl Refusal for Why {
@@ -57,7 +57,7 @@ impl Refusal for Why {
 }
 
 impl Why {
-    // Whether it sets the halted mark.
+    /// Whether it sets the halted mark.
     pub fn halts(self) -> bool
         ensures { result ≡ halts_of self }
     {

@@ -1,5 +1,5 @@
-// The dispatcher's state, as far as it is numbers, and each thing that a step does to it. It goes by value and is handed
-// back; the jobs' counts and marks, an array each, are lent beside it and change where they stand.
+//! The dispatcher's state, as far as it is numbers, and each thing that a step does to it. It goes by value and is handed
+//! back; the jobs' counts and marks, an array each, are lent beside it and change where they stand.
 ghost use Rattle.std.specs.Prelude.{◌≡◌, ◌<◌, ◌≢◌};
 ghost use Rattle.basics.specs.Limits.{first_edition};
 ghost use Rattle.basics.specs.Marks.{idle};
@@ -15,8 +15,8 @@ use parts::lent::Marks;
 use parts::plan::{CLO, JOBS, LEVEL, Plan, number};
 use parts::scan;
 
-// The slot, the last tick taken, the job ordered last, the mode (HI where `high` is set) and the halted mark. Marks are
-// bytes: 0 is clear, anything else set. So every memory content is a head. No step looks at `spare`, or changes it.
+/// The slot, the last tick taken, the job ordered last, the mode (HI where `high` is set) and the halted mark. Marks are
+/// bytes: 0 is clear, anything else set. So every memory content is a head. No step looks at `spare`, or changes it.
 #[repr(C)]
 #[derive(Clone, Copy)]
 pub struct Head {
@@ -28,7 +28,7 @@ pub struct Head {
     pub spare: u8,
 }
 
-// An answer beside the head that it leaves.
+/// An answer beside the head that it leaves.
 #[derive(Clone, Copy)]
 pub struct Turned {
     pub answer: Answer,
@@ -36,7 +36,7 @@ pub struct Turned {
 }
 
 impl Head {
-    // At opening: the tick before the first is taken, at slot L-1 with no job ordered.
+    /// At opening: the tick before the first is taken, at slot L-1 with no job ordered.
     #[tactic(auto, unfolding(crate::specs::Run::fresh_head, crate::specs::Tick::difference))]
     pub fn fresh(len: u16, first: u16) -> Self
         ensures { result ≡ fresh_head len first }
@@ -51,7 +51,7 @@ impl Head {
         }
     }
 
-    // All zero.
+    /// All zero.
     #[tactic(auto, unfolding(crate::specs::Run::no_head))]
     pub fn zero() -> Self
         ensures { result ≡ no_head }

@@ -1,4 +1,4 @@
-// The dispatcher's machine: one step over the parts of a state, lent. No array is copied.
+//! The dispatcher's machine: one step over the parts of a state, lent. No array is copied.
 #![tactic(auto)]
 
 pub mod answer;

@@ -1,5 +1,5 @@
-// A step over a state's parts: the plan's arrays are lent to be read, the head goes by value and comes back, and the counts
-// and marks of the jobs change where they stand.
+//! A step over a state's parts: the plan's arrays are lent to be read, the head goes by value and comes back, and the counts
+//! and marks of the jobs change where they stand.
 ghost use Rattle.std.specs.Prelude.{◌≡◌, ◌<◌, ◌≤◌, true, ◌≢◌};
 ghost use Rattle.basics.specs.Limits.{first_edition};
 ghost use Rattle.basics.specs.Marks.{idle};
@@ -126,7 +126,7 @@ fn next_slot<'a, 'b, 'c>(
     moved.order(plan.jobs, edges, named, marks)
 }
 
-// One tick, with whether the job ordered last signalled its end.
+/// One tick, with whether the job ordered last signalled its end.
 pub fn step<'a, 'b, 'c>(
     plan: PlanParts<'a>,
     head: Head,

@@ -1,5 +1,5 @@
-// What a step is lent: the parts of a plan, to be read, and what it changes beside the head. Each stands where its owner keeps
-// it, so that no array is copied.
+//! What a step is lent: the parts of a plan, to be read, and what it changes beside the head. Each stands where its owner keeps
+//! it, so that no array is copied.
 use crate::plan::{Counts, ENDS, ENTRIES, JOBS};
 use joblist::MOST_JOBS;
 
@@ -11,7 +11,7 @@ pub struct PlanParts<'a> {
     pub tables: &'a [u8; ENTRIES],
 }
 
-// The unit counts of the jobs, and the marks of those that have ended and of those that were cut.
+/// The unit counts of the jobs, and the marks of those that have ended and of those that were cut.
 #[derive(Drop)]
 pub struct Marks<'a> {
     pub units: &'a mut [u16; MOST_JOBS],

@@ -1,4 +1,4 @@
-// The parts of a dispatcher's state, and the tests on them: row 37, those of booking, and those of the order.
+//! The parts of a dispatcher's state, and the tests on them: row 37, those of booking, and those of the order.
 #![tactic(auto)]
 
 pub mod edges;

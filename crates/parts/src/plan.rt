@@ -1,4 +1,4 @@
-// A plan as a state holds it: document 01's counts, jobs, edges and tables.
+//! A plan as a state holds it: document 01's counts, jobs, edges and tables.
 ghost use Rattle.std.specs.Prelude.{◌≡◌, ◌<◌};
 ghost use Rattle.basics.specs.Limits.{first_edition};
 ghost use Rattle.parts.specs.Plan.{number_in, plan_of, no_plan};
@@ -6,7 +6,7 @@ ghost use Rattle.parts.specs.Plan.{number_in, plan_of, no_plan};
 use crate::lent::PlanParts;
 use joblist::{MOST_EDGES, MOST_JOBS, MOST_SLOTS};
 
-// A job's numbers are a, d, CLO, CHI and the level, in the order of its bytes.
+/// A job's numbers are a, d, CLO, CHI and the level, in the order of its bytes.
 pub const NUMBERS: usize = 5;
 
 pub const ARRIVAL: usize = 0;
@@ -19,14 +19,14 @@ pub const CHI: usize = 3;
 
 pub const LEVEL: usize = 4;
 
-// Room for the most jobs' numbers, the most edges' ends, and both tables.
+/// Room for the most jobs' numbers, the most edges' ends, and both tables.
 pub const JOBS: usize = NUMBERS * MOST_JOBS;
 
 pub const ENDS: usize = 2 * MOST_EDGES;
 
 pub const ENTRIES: usize = 2 * MOST_SLOTS;
 
-// The frame length L, the job count n and the edge count m.
+/// The frame length L, the job count n and the edge count m.
 #[repr(C)]
 #[derive(Clone, Copy)]
 pub struct Counts {
@@ -35,7 +35,7 @@ pub struct Counts {
     pub m: u16,
 }
 
-// The numbers job by job; the edges as pairs, p and s; table LO, and table HI from MOST_SLOTS on.
+/// The numbers job by job; the edges as pairs, p and s; table LO, and table HI from MOST_SLOTS on.
 #[repr(C)]
 #[derive(Clone, Copy)]
 pub struct Plan {
@@ -46,13 +46,13 @@ pub struct Plan {
 }
 
 impl Plan {
-    // No job: the idle mark of the tables and of the job ordered last.
+    /// No job: the idle mark of the tables and of the job ordered last.
     pub const IDLE: u8 = joblist::Table::IDLE;
 
-    // The level of a high job.
+    /// The level of a high job.
     pub const HIGH: u16 = 1;
 
-    // All zero.
+    /// All zero.
     #[tactic(auto, unfolding(crate::specs::Plan::no_plan))]
     pub fn zero() -> Self
         ensures { result ≡ no_plan first_edition }
@@ -65,7 +65,7 @@ impl Plan {
         }
     }
 
-    // Its parts, lent.
+    /// Its parts, lent.
     pub fn parts(&self) -> PlanParts<'_>
         ensures { plan_of result ≡ self.now }
     {
@@ -78,7 +78,7 @@ impl Plan {
     }
 }
 
-// Number k of job j.
+/// Number k of job j.
 pub fn number(jobs: &[u16; JOBS], j: usize, k: usize) -> u16
     requires { (j < first_edition.jobs) × (k < 5) }
     ensures { result ≡ number_in jobs.now j k }

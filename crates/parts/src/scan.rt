@@ -1,4 +1,4 @@
-// The tests on a state's parts: row 37 part by part, those of booking, and those of the order.
+//! The tests on a state's parts: row 37 part by part, those of booking, and those of the order.
 ghost use Rattle.std.specs.Prelude.{◌≡◌, ℕ, ◌*◌, ◌<◌, ◌≤◌, ◌&&◌, ◌≢◌, nat_le, slice_index, length};
 ghost use Rattle.std.specs.List.{list_all};
 ghost use Rattle.basics.specs.Limits.{first_edition};
@@ -12,7 +12,7 @@ use joblist::{MOST_EDGES, MOST_JOBS, MOST_SLOTS};
 // The largest budget, and where a count of units stops.
 const BUDGET: u16 = joblist::MOST_BUDGET as u16;
 
-// L, n and m in their ranges.
+/// L, n and m in their ranges.
 #[tactic(auto, unfolding(crate::specs::Scan::sizes_ok, basics::specs::Below::all_of))]
 pub fn sizes_ok(len: usize, n: usize, m: usize) -> bool
     ensures { result ≡ sizes_ok first_edition len n m }
@@ -20,7 +20,7 @@ pub fn sizes_ok(len: usize, n: usize, m: usize) -> bool
     1 <= len && len <= MOST_SLOTS && 1 <= n && n <= MOST_JOBS && m <= MOST_EDGES
 }
 
-// Idle, or a job's number.
+/// Idle, or a job's number.
 #[tactic(auto, unfolding(crate::specs::Scan::byte_ok))]
 pub fn byte_ok(n: usize, x: u8) -> bool
     ensures { result ≡ byte_ok n x }
@@ -28,8 +28,8 @@ pub fn byte_ok(n: usize, x: u8) -> bool
     x == Plan::IDLE || usize::from(x) < n
 }
 
-// Both tables, at each slot: the largest of what their bytes stand at, which is 0 for idle, and one more than a job's number. It
-// is looked for to the last slot, so that a processor takes many slots at once.
+/// Both tables, at each slot: the largest of what their bytes stand at, which is 0 for idle, and one more than a job's number. It
+/// is looked for to the last slot, so that a processor takes many slots at once.
 pub fn tables_ok(tables: &[u8; ENTRIES], len: usize, n: usize) -> bool
     requires { len ≤ first_edition.slots }
     ensures { result ≡ tables_ok first_edition tables.now len n }
@@ -42,7 +42,7 @@ pub fn tables_ok(tables: &[u8; ENTRIES], len: usize, n: usize) -> bool
     usize::from(worst) <= n
 }
 
-// Both ends of each edge, likewise.
+/// Both ends of each edge, likewise.
 pub fn edges_ok(edges: &[u8; ENDS], m: usize, n: usize) -> bool
     requires { (m ≤ first_edition.edges) × (1 ≤ n) }
     ensures { result ≡ edges_ok edges.now m n }
@@ -62,7 +62,7 @@ fn job_ok(jobs: &[u16; JOBS], j: usize) -> bool
         && number(jobs, j, CHI) <= BUDGET
 }
 
-// Level and budgets of each job.
+/// Level and budgets of each job.
 pub fn jobs_ok(jobs: &[u16; JOBS], n: usize) -> bool
     requires { n ≤ first_edition.jobs }
     ensures { result ≡ jobs_ok first_edition jobs.now n }
@@ -70,7 +70,7 @@ pub fn jobs_ok(jobs: &[u16; JOBS], n: usize) -> bool
     (0..n).all(|j| job_ok(jobs, j))
 }
 
-// The unit count of each job.
+/// The unit count of each job.
 pub fn units_ok(units: &[u16; MOST_JOBS], n: usize) -> bool
     requires { n ≤ first_edition.jobs }
     ensures { result ≡ units_ok first_edition units.now n }
@@ -88,14 +88,14 @@ fn ended_before<'a, 'b>(edges: &'a [u8; ENDS], done: &'b [u8; MOST_JOBS], j: u8,
     edges[2 * e + 1] != j || done[usize::from(edges[2 * e])] != 0
 }
 
-// No edge to job j starts at an unfinished job.
+/// No edge to job j starts at an unfinished job.
 pub fn preds_done<'a, 'b>(edges: Edges<'a>, done: &'b [u8; MOST_JOBS], j: u8) -> bool
     ensures { result ≡ preds_done edges.entry.m edges.entry.ends.now done.now j }
 {
     (0..edges.m).all(|e| ended_before(edges.ends, done, j, e))
 }
 
-// The job that the mode's table names at the slot.
+/// The job that the mode's table names at the slot.
 #[tactic(auto, unfolding(crate::specs::Scan::named_in, basics::specs::Choice::pick, crate::specs::Marks::is_set))]
 pub fn named(tables: &[u8; ENTRIES], slot: usize, high: u8) -> u8
     requires { slot < first_edition.slots }
@@ -108,7 +108,7 @@ pub fn named(tables: &[u8; ENTRIES], slot: usize, high: u8) -> u8
     }
 }
 
-// One unit more; a count stops at the largest budget, and one past it stays.
+/// One unit more; a count stops at the largest budget, and one past it stays.
 #[tactic(auto, unfolding(crate::specs::Scan::bump, basics::specs::Choice::pick))]
 pub fn bumped(u: u16) -> u16
     ensures { result ≡ bump first_edition u }
@@ -116,7 +116,7 @@ pub fn bumped(u: u16) -> u16
     if u < BUDGET { u + 1 } else { u }
 }
 
-// 35: whether job j, not ended, is high and with one unit more at or past CHI.
+/// 35: whether job j, not ended, is high and with one unit more at or past CHI.
 #[tactic(auto, unfolding(crate::specs::Scan::past_high))]
 pub fn past_high<'a, 'b>(
     jobs: &'a [u16; JOBS],
@@ -161,7 +161,7 @@ fn may_run<'a, 'b>(
         && preds_done(edges, done, x)
 }
 
-// The named job if it may run, else idle.
+/// The named job if it may run, else idle.
 #[tactic(auto, unfolding(crate::specs::Scan::choice_in, basics::specs::Choice::pick))]
 pub fn choice<'a, 'b>(
     jobs: &'a [u16; JOBS],

@@ -26,7 +26,7 @@ pub const TRAILER_BYTES: usize = 8;
 pub const LEAST_BYTES: usize = HEAD_BYTES + TRAILER_BYTES;
 
 /// Why bytes are no plan.
-#[derive(Clone, Copy)]
+#[derive(Clone, Copy, Debug, PartialEq, Eq)]
 pub enum ReadWhy {
     Short,
     Mark,
@@ -35,7 +35,7 @@ pub enum ReadWhy {
 }
 
 /// The counts n and m, and the frame length L.
-#[derive(Clone, Copy)]
+#[derive(Clone, Copy, Debug, PartialEq, Eq)]
 pub struct Shape {
     pub jobs: usize,
     pub edges: usize,
@@ -43,7 +43,7 @@ pub struct Shape {
 }
 
 /// Why nothing was written.
-#[derive(Clone, Copy)]
+#[derive(Clone, Copy, Debug, PartialEq, Eq)]
 pub enum WriteWhy {
     Checked(Objection),
     Room,

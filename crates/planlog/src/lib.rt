@@ -20,14 +20,14 @@ use verdict::Spot;
 const WRITES_MOST: usize = 2 * STORE_MOST;
 
 /// One byte written into a store.
-#[derive(Clone, Copy)]
+#[derive(Clone, Copy, Debug, PartialEq, Eq)]
 pub struct Write {
     pub place: usize,
     pub byte: u8,
 }
 
 /// Why a plan was not appended.
-#[derive(Clone, Copy)]
+#[derive(Clone, Copy, Debug, PartialEq, Eq)]
 pub enum AppendWhy {
     Large,
     Refused(ReadWhy),

@@ -1,10 +1,10 @@
-// The fields of a state, and what each can hold.
+//! The fields of a state, and what each can hold.
 ghost use Rattle.std.specs.Prelude.{◌≡◌, IfSome};
 ghost use Rattle.poke.specs.Field.{name_of, kind_of};
 
 use joblist::{MOST_EDGES, MOST_JOBS, MOST_SLOTS};
 
-// Words, bytes, then what has a place for each job, edge and slot.
+/// Words, bytes, then what has a place for each job, edge and slot.
 #[derive(Clone, Copy, PartialEq, Eq, Debug)]
 pub enum Field {
     Slot,
@@ -29,7 +29,7 @@ pub enum Field {
     Hi,
 }
 
-// How many places a field has, and the largest value of one.
+/// How many places a field has, and the largest value of one.
 #[derive(Clone, Copy, PartialEq, Eq, Debug)]
 pub struct Kind {
     pub places: usize,
@@ -54,7 +54,7 @@ impl Kind {
 }
 
 impl Field {
-    // The field of this name, as a line has it.
+    /// The field of this name, as a line has it.
     pub fn named(word: &[u8]) -> Option<Self>
         ensures found { IfSome result (λ f. word.now ≡ name_of f) }
         ensures known { (f : Field) → word.now ≡ name_of f → result ≡ Some f }
@@ -84,7 +84,7 @@ impl Field {
         }
     }
 
-    // Its places and its values.
+    /// Its places and its values.
     pub fn kind(self) -> Kind
         ensures { result ≡ kind_of self }
     {

@@ -1,4 +1,4 @@
-// One field of the dispatcher's state: set to any value that it can hold.
+//! One field of the dispatcher's state: set to any value that it can hold.
 #![tactic(auto)]
 
 pub mod field;
@@ -45,7 +45,7 @@ fn set<T: Copy>(field: &mut [T], i: usize, value: T) {
     }
 }
 
-// The state with v in place i of a field.
+/// The state with v in place i of a field.
 pub fn poked(mut state: State, field: Field, i: usize, v: usize) -> State {
     let word = (v % 65536) as u16;
     let byte = (v % 256) as u8;

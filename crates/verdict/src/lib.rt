@@ -7,7 +7,7 @@ ghost use Rattle.basics.specs.Limits.{first_edition};
 ghost use Rattle.joblist.specs.Answer.{list_answer};
 ghost use Rattle.verdict.specs.Answer.{odd_entry, tables_answer, check_of};
 ghost use Rattle.verdict.specs.Inner.{first_of};
-ghost use Rattle.verdict.specs.Numbers.{fault_number, number_of, place_of, answer_number};
+ghost use Rattle.verdict.specs.Numbers.{fault_number, number_of, place_of};
 ghost use Rattle.verdict.specs.declared.Spot.TheVariants.{InList, AtFault};
 ghost use Rattle.joblist.specs.declared.Place.TheVariants.{Nowhere};
 
@@ -126,32 +126,7 @@ impl Refusal for Objection {
     }
 }
 
-/// The number of a fault, for callers that do not name the trait.
-pub fn fault_number(f: Fault) -> usize
-    ensures { result ≡ fault_number f }
-{
-    f.number()
-}
-
-pub fn number_of(w: Objection) -> usize
-    ensures { result ≡ number_of w }
-{
-    w.number()
-}
-
-pub fn place_of(w: Objection) -> Spot
-    ensures { result ≡ place_of w }
-{
-    w.place()
-}
-
-pub fn answer_number(v: Verdict) -> usize
-    ensures { result ≡ answer_number v }
-{
-    refusal::answer_number(v)
-}
-
-/// Whether an entry is neither idle nor one of n jobs.
+// Whether an entry is neither idle nor one of n jobs.
 fn is_odd(j: usize, n: usize) -> bool
     ensures { result ≡ not (ltb j n || eqb j idle) }
 {

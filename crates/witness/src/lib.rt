@@ -1,4 +1,4 @@
-// The execution that goes wrong where the check names a fault: how many units each job needs.
+//! The execution that goes wrong where the check names a fault: how many units each job needs.
 #![tactic(auto)]
 
 ghost use Rattle.std.specs.Prelude.{◌≡◌};
@@ -10,7 +10,7 @@ use verdict::Objection;
 
 pub mod needs;
 
-// The check of a list and two tables, and the execution behind its fault.
+/// The check of a list and two tables, and the execution behind its fault.
 pub fn witness(list: &[u8], lo: &[u8], hi: &[u8]) -> Witness
     ensures { result ≡ witness_of first_edition list.now lo.now hi.now }
 {

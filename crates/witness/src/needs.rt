@@ -1,4 +1,4 @@
-// What each job needs in the execution that goes wrong. All but the struct is inner.
+//! What each job needs in the execution that goes wrong. All but the struct is inner.
 ghost use Rattle.std.specs.Prelude.{◌≡◌, ◌||◌, ◌+◌, ◌<◌, ◌≤◌, length, replicate, eqb};
 ghost use Rattle.basics.specs.Limits.{first_edition};
 ghost use Rattle.basics.specs.Marks.{no_switch};
@@ -9,7 +9,7 @@ use joblist::{MOST_JOBS, high_of, ordinary_of};
 use verdict::count::{entries_before, entry_at};
 use verdict::{Fault, Verdict};
 
-// The check's answer, and what each job needs in an execution that is bad as it says; zeros where it names no fault.
+/// The check's answer, and what each job needs in an execution that is bad as it says; zeros where it names no fault.
 #[derive(Clone, Copy)]
 pub struct Witness {
     pub verdict: Verdict,
