@@ -139,7 +139,7 @@ fn late_low(jobs: &[u16; JOBS], slot: u16, high: u8, j: usize) -> bool
     high != 0 && number(jobs, j, LEVEL) != Plan::HIGH && number(jobs, j, DEADLINE) <= slot
 }
 
-// Whether job x may run in the slot.
+// Whether job x may run in the slot. The marks come one by one: an array behind a `&mut` in a lent struct gets no proof.
 #[tactic(auto, unfolding(crate::specs::Scan::may_run, basics::specs::Below::all_of, crate::specs::Marks::is_set))]
 fn may_run<'a, 'b>(
     jobs: &'a [u16; JOBS],
