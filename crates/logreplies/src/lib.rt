@@ -1,19 +1,17 @@
-// The answer to each request of the log, on a store that is lent.
+//! The answer to each request of the log, on a store that is lent.
 #![tactic(auto)]
 
-mod call;
-
 use logwalk::Span;
-use page::{Page, plus};
+use page::Page;
 use planlog::AppendWhy;
-use replytext::{put_bytes, put_spot};
+use replytext::{put_answer, put_bytes};
 use requests::LogRequest;
-use text::part;
+use std::iter::successors;
 
-// How many bytes the store has for a request: those that it had, and for a new store those that are asked for.
-pub fn size_for(r: LogRequest, size: usize) -> usize {
-    match r {
-        LogRequest::Store(n, _) => n,
+/// How many bytes the store has for a request: those that it had, and for a new store those that are asked for.
+pub fn size_for(request: LogRequest<'_>, size: usize) -> usize {
+    match request {
+        LogRequest::Store { size, .. } => size,
         _ => size,
     }
 }
@@ -26,22 +24,16 @@ fn put_unreadable(page: Page) -> Page {
     page.put(b"?")
 }
 
-fn fill(store: &mut [u8], byte: u8) {
-    for i in 0..store.len() {
-        store[i] = byte;
-    }
-}
-
 fn reply_store(page: Page, store: &mut [u8], byte: usize) -> Page {
-    fill(store, (byte % 256) as u8);
+    store.fill((byte % 256) as u8);
     put_yes(page)
 }
 
-fn reply_put(page: Page, store: &mut [u8], at: usize, s: &[u8]) -> Page {
-    if store.len() < plus(at, s.len()) {
+fn reply_put(page: Page, store: &mut [u8], at: usize, bytes: &[u8]) -> Page {
+    let Some(place) = store.get_mut(at..at.saturating_add(bytes.len())) else {
         return put_unreadable(page);
-    }
-    call::put(store, at, s);
+    };
+    place.copy_from_slice(bytes);
     put_yes(page)
 }
 
@@ -50,70 +42,59 @@ fn put_start(page: Page, start: usize) -> Page {
     page.put(b" at=").number(start)
 }
 
-fn put_appended(page: Page, a: Result<usize, AppendWhy>) -> Page {
-    let next = put_spot(
-        page.number(refusal::answer_number(a)),
-        refusal::answer_place(a),
-    );
-    match a {
+fn put_appended(page: Page, answer: Result<usize, AppendWhy>) -> Page {
+    let next = put_answer(page, answer);
+    match answer {
         Ok(start) => put_start(next, start),
         Err(_) => next,
     }
 }
 
-fn put_newest(page: Page, p: Span) -> Page {
-    put_start(page, p.start).put(b" size=").number(p.size)
-}
-
 fn reply_newest(page: Page, store: &[u8]) -> Page {
-    let f = call::newest(store);
-    let next = page.number(refusal::answer_number(f));
-    match f {
-        Ok(p) => put_newest(next, p),
+    let answer = logwalk::newest(store);
+    let next = put_answer(page, answer);
+    match answer {
+        Ok(plan) => put_start(next, plan.start).put(b" size=").number(plan.size),
         Err(_) => next,
     }
 }
 
-// The starts of the plans that end at a place or before it, newest first: no store has more plans than bytes.
-fn put_earlier(start: Page, store: &[u8], place: usize) -> Page {
-    let mut page = start;
-    let mut end = place;
-    for i in 0..store.len() {
-        let Ok(p) = call::previous(store, end) else {
-            return page;
-        };
-        page = page.put(b",").number(p.start);
-        end = p.start;
-    }
-    page
+// The starts of the plans before a plan, the newest first: no store has more plans than bytes.
+fn put_earlier(page: Page, store: &[u8], plan: Span) -> Page {
+    successors(Some(plan), |next| logwalk::previous(store, next.start).ok())
+        .skip(1)
+        .take(store.len())
+        .fold(page, |page, plan| page.put(b",").number(plan.start))
 }
 
 fn reply_listed(page: Page, store: &[u8]) -> Page {
-    let f = call::newest(store);
-    let next = page.number(refusal::answer_number(f));
-    match f {
-        Ok(p) => put_earlier(put_start(next, p.start), store, p.start),
+    let answer = logwalk::newest(store);
+    let next = put_answer(page, answer);
+    match answer {
+        Ok(plan) => put_earlier(put_start(next, plan.start), store, plan),
         Err(_) => next,
     }
 }
 
 fn reply_peek(page: Page, store: &[u8], at: usize, count: usize) -> Page {
-    let end = plus(at, count);
-    if store.len() < end {
-        return put_unreadable(page);
+    match store.get(at..at.saturating_add(count)) {
+        Some(bytes) => put_bytes(put_yes(page), b" bytes=", bytes),
+        None => put_unreadable(page),
     }
-    put_bytes(put_yes(page), b" bytes=", part(store, at, end))
 }
 
-// The answer to a request whose bytes are decoded, on as many bytes as the store has for it.
-pub fn reply(page: Page, r: LogRequest, bytes: &[u8], store: &mut [u8]) -> Page {
-    match r {
-        LogRequest::Store(_, byte) => reply_store(page, store, byte),
-        LogRequest::Put(at) => reply_put(page, store, at, bytes),
-        LogRequest::Append => put_appended(page, call::append(store, bytes)),
-        LogRequest::Cut(most) => put_appended(page, call::append_cut(store, bytes, most)),
+/// The answer to a request, on as many bytes as the store has for it.
+pub fn reply(page: Page, request: LogRequest<'_>, store: &mut [u8]) -> Page {
+    match request {
+        LogRequest::Store { byte, .. } => reply_store(page, store, byte),
+        LogRequest::Put { at, bytes } => reply_put(page, store, at, bytes),
+        LogRequest::Append { plan } => put_appended(page, planlog::append(store, plan)),
+        LogRequest::Cut { plan, most } => put_appended(
+            page,
+            planlog::append_cut(store, plan, most),
+        ),
         LogRequest::Newest => reply_newest(page, store),
         LogRequest::Listed => reply_listed(page, store),
-        LogRequest::Peek(at, count) => reply_peek(page, store, at, count),
+        LogRequest::Peek { at, count } => reply_peek(page, store, at, count),
     }
 }

@@ -1,4 +1,4 @@
-// The log of plans in a file: its store made, appended to and read.
+//! The log of plans in a file: its store made, appended to and read.
 #![tactic(auto)]
 
 mod writes;
@@ -7,205 +7,130 @@ use files::{complain, fail, send, unwritten};
 use logtext::{end_of, plan_at};
 use logwalk::{FindWhy, STORE_MOST, Span};
 use page::Page;
-use planlog::AppendWhy;
 use std::fs::File;
-use text::{Decimal, part, same};
-
-// The log's calls by themselves: what they promise is proved where they are made, and no page needs it.
-fn room_for(store: &[u8], plan: &[u8]) -> Result<usize, AppendWhy> {
-    planlog::room_for(store, plan)
-}
-
-fn newest_of(store: &[u8]) -> Result<Span, FindWhy> {
-    logwalk::newest(store)
-}
 
 fn misused(rt: &HostRuntime) {
     let page = Page::errors(rt);
     complain(page.line(b"desk log STORE new BYTES: expected a number BYTES from 1 to 65536"));
 }
 
-fn is_digit(x: u8) -> bool {
-    if x < b'0' {
-        return false;
-    }
-    x <= b'9'
+// A store in the file of a path.
+#[derive(Clone, Copy)]
+struct Store<'a> {
+    rt: &'a HostRuntime,
+    path: &'a [u8],
 }
 
-// Whether a word has digits only: then a number that cannot be read is too large.
-fn is_digits(s: &[u8]) -> bool {
-    for i in 0..s.len() {
-        if !is_digit(s[i]) {
-            return false;
+impl Store<'_> {
+    // desk log STORE new BYTES; a store that would be too large is told as one that is.
+    fn make(self, bytes: &[u8]) {
+        match text::number(bytes, STORE_MOST) {
+            Some(size) if size != 0 => self.make_of(size),
+            None if bytes.iter().all(|x| x.is_ascii_digit()) => {
+                send(logtext::put_not_found(
+                    self.rt.alloc(),
+                    Page::output(self.rt),
+                    FindWhy::Large,
+                ));
+            }
+            _ => misused(self.rt),
         }
+    }
+
+    fn make_of(self, size: usize) {
+        let zeros = [0u8; STORE_MOST];
+        if files::create(self.rt, self.path, zeros.get(..size).unwrap_or(&zeros)) {
+            send(logtext::put_made(Page::output(self.rt), self.path, size));
+        }
+    }
+
+    // desk log STORE append PLAN
+    fn append(self, from: &[u8]) {
+        match files::open_update(self.rt, self.path) {
+            Ok(file) => self.append_open(&file, from),
+            Err(e) => {
+                fail(Page::errors(self.rt), self.path, e);
+                unwritten(self.rt, self.path);
+            }
+        }
+    }
+
+    fn append_open(self, file: &File, from: &[u8]) {
+        let Some(store) = files::read_open(self.rt, file, self.path) else {
+            return;
+        };
+        let Some(plan) = files::read(self.rt, from) else {
+            return;
+        };
+        let size = store.len();
+        let at = match planlog::room_for(&store, &plan) {
+            Ok(at) => at,
+            Err(w) => {
+                send(logtext::put_refused(self.rt.alloc(), Page::output(self.rt), &plan, w));
+                return;
+            }
+        };
+        // It is said to be there once all is on the disk.
+        match writes::make(file, size, at, &plan) {
+            Ok(()) => send(logtext::put_appended(Page::output(self.rt), from, &plan, at, size)),
+            Err(e) => {
+                fail(Page::errors(self.rt), self.path, e);
+                complain(logtext::put_cut(Page::errors(self.rt), self.path));
+            }
+        }
+    }
+
+    // desk log STORE newest PLAN
+    fn newest(self, to: &[u8]) {
+        let Some(store) = files::read(self.rt, self.path) else {
+            return;
+        };
+        match logwalk::newest(&store) {
+            Ok(span) => self.save(to, &store, span),
+            Err(w) => send(logtext::put_not_found(self.rt.alloc(), Page::output(self.rt), w)),
+        }
+    }
+
+    fn save(self, to: &[u8], store: &[u8], span: Span) {
+        let plan = plan_at(store, span);
+        if self.is_over(to, store, plan) {
+            complain(logtext::put_own(Page::errors(self.rt), to));
+            unwritten(self.rt, to);
+        } else if files::write(self.rt, to, plan) {
+            send(logtext::put_found(Page::output(self.rt), to, plan, span.start));
+        }
+    }
+
+    // Whether a plan would go over the store itself, or over a copy of it; a store that is this one plan loses nothing.
+    fn is_over(self, to: &[u8], store: &[u8], plan: &[u8]) -> bool {
+        store != plan && files::has(self.rt, to, store)
+    }
+
+    // desk log STORE list
+    fn list(self) {
+        let Some(store) = files::read(self.rt, self.path) else {
+            return;
+        };
+        match logwalk::newest(&store) {
+            Ok(span) => {
+                let page = Page::output(self.rt);
+                send(logtext::put_list(page, self.path, &store, end_of(span)));
+            }
+            Err(w) => complain(logtext::put_not_found(self.rt.alloc(), Page::errors(self.rt), w)),
+        }
+    }
+}
+
+/// desk log STORE WORD ..: whether there is such a command. Each but list is given one word more.
+pub fn command(rt: &HostRuntime, path: &[u8], word: &[u8], given: &[u8]) -> bool {
+    let store = Store { rt, path };
+    match (word, given) {
+        (b"list", _) => store.list(),
+        (_, b"") => return false,
+        (b"new", bytes) => store.make(bytes),
+        (b"append", plan) => store.append(plan),
+        (b"newest", plan) => store.newest(plan),
+        _ => return false,
     }
     true
-}
-
-fn make_of(rt: &HostRuntime, path: &[u8], size: usize) {
-    let zeros = [0u8; STORE_MOST];
-    if size == 0 {
-        misused(rt);
-        return;
-    }
-    if files::create(rt, path, part(&zeros, 0, size)) {
-        send(logtext::put_made(Page::output(rt), path, size));
-    }
-}
-
-// desk log STORE new BYTES; a store that would be too large is told as one that is.
-fn make(rt: &HostRuntime, path: &[u8], bytes: &[u8]) {
-    if !is_digits(bytes) {
-        misused(rt);
-        return;
-    }
-    match text::number(bytes, STORE_MOST) {
-        Decimal::Is(n) => make_of(rt, path, n),
-        Decimal::Not => send(logtext::put_not_found(Page::output(rt), FindWhy::Large)),
-    }
-}
-
-// Appends where there is room, and says so once all is on the disk.
-fn append_at(
-    rt: &HostRuntime,
-    file: &File,
-    path: &[u8],
-    size: usize,
-    from: &[u8],
-    plan: &[u8],
-    at: usize,
-) {
-    match writes::make(file, size, at, plan) {
-        Ok(()) => send(logtext::put_appended(Page::output(rt), from, plan, at, size)),
-        Err(e) => {
-            fail(Page::errors(rt), path, e);
-            complain(logtext::put_cut(Page::errors(rt), path));
-        }
-    }
-}
-
-fn append_bytes(
-    rt: &HostRuntime,
-    file: &File,
-    path: &[u8],
-    store: &[u8],
-    from: &[u8],
-    plan: &[u8],
-) {
-    match room_for(store, plan) {
-        Ok(at) => append_at(rt, file, path, store.len(), from, plan, at),
-        Err(w) => send(logtext::put_refused(Page::output(rt), plan, w)),
-    }
-}
-
-fn append_open(rt: &HostRuntime, file: &File, path: &[u8], from: &[u8]) {
-    let held = files::read_open(rt, file, path);
-    if !held.is_read {
-        return;
-    }
-    let given = files::read(rt, from);
-    if !given.is_read {
-        return;
-    }
-    let store = held.bytes;
-    let plan = given.bytes;
-    append_bytes(
-        rt,
-        file,
-        path,
-        part(&store, 0, held.size),
-        from,
-        part(&plan, 0, given.size),
-    );
-}
-
-// desk log STORE append PLAN
-fn append(rt: &HostRuntime, path: &[u8], from: &[u8]) {
-    match files::open_update(rt, path) {
-        Ok(file) => append_open(rt, &file, path, from),
-        Err(e) => {
-            fail(Page::errors(rt), path, e);
-            unwritten(rt, path);
-        }
-    }
-}
-
-// Whether a plan would go over the store itself, or over a copy of it; a store that is this one plan loses nothing.
-fn is_over(rt: &HostRuntime, to: &[u8], store: &[u8], plan: &[u8]) -> bool {
-    if same(store, plan) {
-        return false;
-    }
-    files::has(rt, to, store)
-}
-
-fn save(rt: &HostRuntime, to: &[u8], store: &[u8], plan: &[u8], at: usize) {
-    if is_over(rt, to, store, plan) {
-        complain(logtext::put_own(Page::errors(rt), to));
-        unwritten(rt, to);
-        return;
-    }
-    if files::write(rt, to, plan) {
-        send(logtext::put_found(Page::output(rt), to, plan, at));
-    }
-}
-
-fn newest_in(rt: &HostRuntime, store: &[u8], to: &[u8]) {
-    match newest_of(store) {
-        Ok(s) => save(rt, to, store, plan_at(store, s), s.start),
-        Err(w) => send(logtext::put_not_found(Page::output(rt), w)),
-    }
-}
-
-// desk log STORE newest PLAN
-fn newest(rt: &HostRuntime, path: &[u8], to: &[u8]) {
-    let file = files::read(rt, path);
-    if file.is_read {
-        let bytes = file.bytes;
-        newest_in(rt, part(&bytes, 0, file.size), to);
-    }
-}
-
-fn list_in(rt: &HostRuntime, path: &[u8], store: &[u8]) {
-    match newest_of(store) {
-        Ok(s) => send(logtext::put_list(Page::output(rt), path, store, end_of(s))),
-        Err(w) => complain(logtext::put_not_found(Page::errors(rt), w)),
-    }
-}
-
-// desk log STORE list
-fn list(rt: &HostRuntime, path: &[u8]) {
-    let file = files::read(rt, path);
-    if file.is_read {
-        let bytes = file.bytes;
-        list_in(rt, path, part(&bytes, 0, file.size));
-    }
-}
-
-// The words that are given one more.
-fn on_given(rt: &HostRuntime, path: &[u8], word: &[u8], given: &[u8]) -> bool {
-    if same(word, b"new") {
-        make(rt, path, given);
-        return true;
-    }
-    if same(word, b"append") {
-        append(rt, path, given);
-        return true;
-    }
-    if same(word, b"newest") {
-        newest(rt, path, given);
-        return true;
-    }
-    false
-}
-
-// desk log STORE WORD ..: whether there is such a command.
-pub fn command(rt: &HostRuntime, path: &[u8], word: &[u8], given: &[u8]) -> bool {
-    if same(word, b"list") {
-        list(rt, path);
-        return true;
-    }
-    if given.len() == 0 {
-        return false;
-    }
-    on_given(rt, path, word, given)
 }

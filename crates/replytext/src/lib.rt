@@ -1,17 +1,18 @@
-// The parts of an answer line: a number, and the places that it has.
+//! The parts of an answer line: a number, and the places that it has.
 #![tactic(auto)]
 
 use joblist::Place;
 use merge::BuildPlace;
 use page::Page;
-use verdict::{Fault, Spot, Verdict};
+use refusal::{Refusal, answer_number, answer_place};
+use verdict::{Fault, Spot};
 
-// A name and its bytes, `-` for none.
-pub fn put_bytes(page: Page, name: &[u8], s: &[u8]) -> Page {
-    if s.len() == 0 {
+/// A name and its bytes, `-` for none.
+pub fn put_bytes(page: Page, name: &[u8], bytes: &[u8]) -> Page {
+    if bytes.is_empty() {
         return page.put(name).put(b"-");
     }
-    page.put(name).hex(s)
+    page.put(name).hex(bytes)
 }
 
 fn put_slot(page: Page, t: usize) -> Page {
@@ -22,15 +23,6 @@ fn put_job(page: Page, j: usize) -> Page {
     page.put(b" job=").number(j)
 }
 
-// The job or the edge of a refused list.
-pub fn put_place(page: Page, p: Place) -> Page {
-    match p {
-        Place::Nowhere => page,
-        Place::AtJob(j) => put_job(page, j),
-        Place::AtEdge(e) => page.put(b" edge=").number(e),
-    }
-}
-
 fn put_slot_job(page: Page, t: usize, j: usize) -> Page {
     put_job(put_slot(page, t), j)
 }
@@ -39,42 +31,63 @@ fn put_switch(page: Page, x: usize) -> Page {
     page.put(b" switch=").number(x)
 }
 
-// Slot, job and switch of a fault; a predecessor where it has one.
-fn put_fault(page: Page, f: Fault) -> Page {
-    match f {
-        Fault::Late(t, j, x) => put_switch(put_slot_job(page, t, j), x),
-        Fault::Early(t, j, x) => put_switch(put_slot_job(page, t, j), x),
-        Fault::Before(t, j, p, x) => {
-            let job = put_slot_job(page, t, j);
-            put_switch(job.put(b" pred=").number(p), x)
+/// A place that an answer line shows behind the number.
+pub trait Shown {
+    fn put_on(self, page: Page) -> Page;
+}
+
+impl Shown for Place {
+    // The job or the edge of a refused list.
+    fn put_on(self, page: Page) -> Page {
+        match self {
+            Place::Nowhere => page,
+            Place::AtJob(j) => put_job(page, j),
+            Place::AtEdge(e) => page.put(b" edge=").number(e),
         }
     }
 }
 
-// The place of what the check, a plan or a write is refused for.
-pub fn put_spot(page: Page, s: Spot) -> Page {
-    match s {
-        Spot::InList(p) => put_place(page, p),
-        Spot::AtSlot(t) => put_slot(page, t),
-        Spot::AtFault(f) => put_fault(page, f),
+impl Shown for Fault {
+    // Slot, job and switch; a predecessor where the fault has one.
+    fn put_on(self, page: Page) -> Page {
+        match self {
+            Fault::Late(t, j, x) | Fault::Early(t, j, x) => put_switch(put_slot_job(page, t, j), x),
+            Fault::Before(t, j, p, x) => {
+                let job = put_slot_job(page, t, j);
+                put_switch(job.put(b" pred=").number(p), x)
+            }
+        }
     }
 }
 
-// The check's answer: its number, and its place.
-pub fn put_verdict(page: Page, v: Verdict) -> Page {
-    let next = page.number(verdict::answer_number(v));
-    match v {
-        Ok(()) => next,
-        Err(w) => put_spot(next, verdict::place_of(w)),
+impl Shown for Spot {
+    // The place of what the check, a plan or a write is refused for.
+    fn put_on(self, page: Page) -> Page {
+        match self {
+            Spot::InList(place) => place.put_on(page),
+            Spot::AtSlot(t) => put_slot(page, t),
+            Spot::AtFault(fault) => fault.put_on(page),
+        }
     }
 }
 
-// The place of what a build is refused for.
-pub fn put_build_place(page: Page, p: BuildPlace) -> Page {
-    match p {
-        BuildPlace::InList(p) => put_place(page, p),
-        BuildPlace::AtJob(t, j) => put_slot_job(page, t, j),
-        BuildPlace::AtSlot(t) => put_slot(page, t),
-        BuildPlace::Answer(v) => put_verdict(page.put(b" fault="), v),
+impl Shown for BuildPlace {
+    // The place of what a build is refused for.
+    fn put_on(self, page: Page) -> Page {
+        match self {
+            BuildPlace::InList(place) => place.put_on(page),
+            BuildPlace::AtJob(t, j) => put_slot_job(page, t, j),
+            BuildPlace::AtSlot(t) => put_slot(page, t),
+            BuildPlace::Answer(verdict) => put_answer(page.put(b" fault="), verdict),
+        }
     }
+}
+
+/// An answer: its number, and the place of what is refused.
+pub fn put_answer<T: Copy, W: Refusal>(page: Page, answer: Result<T, W>) -> Page
+where
+    W::Place: Shown,
+{
+    let next = page.number(answer_number(answer));
+    answer_place(answer).put_on(next)
 }

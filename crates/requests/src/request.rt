@@ -1,113 +1,142 @@
 // What a line asks: its word and its fields, read.
-use crate::decoded::{Decoded, NONE};
-use crate::fields::{count, field, place_in};
-use crate::log::{LogRequest, log_request_of};
-use poke::{NAMES, kind_of};
-use text::Decimal;
+use crate::field::{bytes, decoded, mark, word};
+use crate::log::{LogRequest, log_asked};
+use poke::field::Field;
+use text::number;
 
-// A longer line is not kept, and cannot be read.
+/// A longer line is not kept, and cannot be read.
 pub const MOST_LINE: usize = 400000;
+
+// No line that can be read has more fields.
+const MOST_FIELDS: usize = 5;
 
 // No number is larger, and no more bytes are lent.
 const MOST_NUMBER: usize = 65535;
 
 pub const MOST_ROOM: usize = 4096;
 
-// A request with its numbers; its bytes are decoded.
+/// A list, and two tables of it.
 #[derive(Clone, Copy)]
-pub enum Request {
-    List,
-    Check,
-    Write(usize),
-    Build(usize),
-    Read,
-    Open(usize),
-    Step(usize, usize),
-    Poke(usize, usize, usize),
-    Count(usize, usize),
-    Log(LogRequest),
-    Unreadable,
+pub struct Tables<'a> {
+    pub list: &'a [u8],
+    pub lo: &'a [u8],
+    pub hi: &'a [u8],
 }
 
-// The number in field k.
-pub(crate) fn number(line: &[u8], k: usize, most: usize) -> usize {
-    match text::number(field(line, k), most) {
-        Decimal::Is(n) => n,
-        Decimal::Not => NONE,
+/// A request with its numbers and its bytes.
+#[derive(Clone, Copy)]
+pub enum Request<'a> {
+    List {
+        list: &'a [u8],
+    },
+    Check {
+        tables: Tables<'a>,
+    },
+    Write {
+        tables: Tables<'a>,
+        lent: usize,
+    },
+    Build {
+        list: &'a [u8],
+        lent: usize,
+    },
+    Read {
+        plan: &'a [u8],
+    },
+    Open {
+        plan: &'a [u8],
+        first: u16,
+    },
+    Step {
+        tick: u16,
+        ended: bool,
+    },
+    Poke {
+        field: Field,
+        place: usize,
+        value: usize,
+    },
+    Count {
+        table: &'a [u8],
+        job: usize,
+        slot: usize,
+    },
+    Log(LogRequest<'a>),
+}
+
+fn tables_of<'a>(room: &'a mut [u8], list: &[u8], lo: &[u8], hi: &[u8]) -> Option<Tables<'a>> {
+    let (list, room) = decoded(room, list)?;
+    let (lo, room) = decoded(room, lo)?;
+    let hi = bytes(room, hi)?;
+    Some(Tables { list, lo, hi })
+}
+
+fn poke<'a>(name: &[u8], place: &[u8], value: &[u8]) -> Option<Request<'a>> {
+    let field = Field::named(name)?;
+    let kind = field.kind();
+    let place = number(place, MOST_NUMBER)?;
+    let value = number(value, kind.most)?;
+    if kind.places <= place {
+        return None;
     }
+    Some(Request::Poke {
+        field,
+        place,
+        value,
+    })
 }
 
-// The request, where the line is not too long and has so many fields, and an end and a number are there.
-pub(crate) fn asked(r: Request, line: &[u8], fields: usize, end: usize, n: usize) -> Request {
+// The request that a line's fields say.
+fn asked<'a>(fields: &[&[u8]], room: &'a mut [u8]) -> Option<Request<'a>> {
+    Some(match fields {
+        [b"list", list] => Request::List {
+            list: bytes(room, list)?,
+        },
+        [b"check", list, lo, hi] => Request::Check {
+            tables: tables_of(room, list, lo, hi)?,
+        },
+        [b"write", list, lo, hi, lent] => Request::Write {
+            tables: tables_of(room, list, lo, hi)?,
+            lent: number(lent, MOST_ROOM)?,
+        },
+        [b"build", list, lent] => Request::Build {
+            list: bytes(room, list)?,
+            lent: number(lent, MOST_ROOM)?,
+        },
+        [b"read", plan] => Request::Read {
+            plan: bytes(room, plan)?,
+        },
+        [b"open", plan, first] => Request::Open {
+            plan: bytes(room, plan)?,
+            first: word(first)?,
+        },
+        [b"step", tick, ended] => Request::Step {
+            tick: word(tick)?,
+            ended: mark(ended)?,
+        },
+        [b"poke", name, place, value] => poke(name, place, value)?,
+        // Any job and any slot: also a job that no entry can be, and a slot past the table.
+        [b"count", table, job, slot] => Request::Count {
+            table: bytes(room, table)?,
+            job: number(job, MOST_NUMBER)?,
+            slot: number(slot, MOST_NUMBER)?,
+        },
+        _ => Request::Log(log_asked(fields, room)?),
+    })
+}
+
+/// The request of a line, whose bytes are decoded into a room; none where the line cannot be read. Its fields are split by
+/// one blank: two blanks make an empty field.
+pub fn request_of<'a>(line: &[u8], room: &'a mut [u8]) -> Option<Request<'a>> {
     if MOST_LINE < line.len() {
-        return Request::Unreadable;
+        return None;
     }
-    if count(line) != fields {
-        return Request::Unreadable;
+    // An array and no `Vec`, so that no memory can run out here.
+    let mut fields = [b"".as_slice(); MOST_FIELDS];
+    let mut count = 0;
+    for field in line.split(|x| *x == b' ') {
+        *fields.get_mut(count)? = field;
+        count += 1;
     }
-    if end == NONE {
-        return Request::Unreadable;
-    }
-    if n == NONE {
-        return Request::Unreadable;
-    }
-    r
-}
-
-fn read_write(line: &[u8], d: Decoded) -> Request {
-    let lent = number(line, 4, MOST_ROOM);
-    asked(Request::Write(lent), line, 5, d.hi, lent)
-}
-
-fn read_build(line: &[u8], d: Decoded) -> Request {
-    let lent = number(line, 2, MOST_ROOM);
-    asked(Request::Build(lent), line, 3, d.list, lent)
-}
-
-fn read_open(line: &[u8], d: Decoded) -> Request {
-    let first = number(line, 2, MOST_NUMBER);
-    asked(Request::Open(first), line, 3, d.list, first)
-}
-
-fn read_step(line: &[u8]) -> Request {
-    let tick = number(line, 1, MOST_NUMBER);
-    let ended = number(line, 2, 1);
-    asked(Request::Step(tick, ended), line, 3, tick, ended)
-}
-
-fn read_poke(line: &[u8]) -> Request {
-    let f = place_in(&NAMES, field(line, 1));
-    let kind = kind_of(f);
-    let i = number(line, 2, MOST_NUMBER);
-    let v = number(line, 3, kind.most);
-    if kind.places <= i {
-        return Request::Unreadable;
-    }
-    asked(Request::Poke(f, i, v), line, 4, i, v)
-}
-
-// Any job and any slot: also a job that no entry can be, and a slot past the table.
-fn read_count(line: &[u8], d: Decoded) -> Request {
-    let job = number(line, 2, MOST_NUMBER);
-    let slot = number(line, 3, MOST_NUMBER);
-    if job == NONE {
-        return Request::Unreadable;
-    }
-    asked(Request::Count(job, slot), line, 4, d.list, slot)
-}
-
-pub fn request_of(line: &[u8], d: Decoded) -> Request {
-    let words = b"list check write build read open step poke count";
-    match place_in(words, field(line, 0)) {
-        0 => asked(Request::List, line, 2, d.list, 0),
-        1 => asked(Request::Check, line, 4, d.hi, 0),
-        2 => read_write(line, d),
-        3 => read_build(line, d),
-        4 => asked(Request::Read, line, 2, d.list, 0),
-        5 => read_open(line, d),
-        6 => read_step(line),
-        7 => read_poke(line),
-        8 => read_count(line, d),
-        _ => log_request_of(line, d),
-    }
+    asked(fields.get(..count)?, room)
 }
