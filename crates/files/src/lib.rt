@@ -1,4 +1,4 @@
-// Files, read whole and written whole; and pages, sent whole.
+//! Files, read whole and written whole; and pages, sent whole.
 #![tactic(auto)]
 
 mod why;
@@ -19,7 +19,7 @@ const PIECE: usize = 4096;
 // The longest path of a file with the end that its side file has.
 const PATH_ROOM: usize = 4104;
 
-// Sends the rest of a page, and says so where some of it was lost.
+/// Sends the rest of a page, and says so where some of it was lost.
 pub fn send(page: Page) {
     let errors = page.aside();
     if let Some(e) = page.loss() {
@@ -27,7 +27,7 @@ pub fn send(page: Page) {
     }
 }
 
-// Sends a page to standard error. Where that fails there is nowhere left to say so.
+/// Sends a page to standard error. Where that fails there is nowhere left to say so.
 pub fn complain(page: Page) {
     page.done();
 }
@@ -40,12 +40,12 @@ fn path_of(path: &[u8]) -> io::Result<&str> {
     str::from_utf8(path).map_err(|_| Error::from_raw_os_error(NO_TEXT))
 }
 
-// Opens a file to read it.
+/// Opens a file to read it.
 pub fn open(rt: &HostRuntime, path: &[u8]) -> io::Result<fs::File> {
     fs::File::open(rt, path_of(path)?)
 }
 
-// Opens a file to read it and to write over its bytes.
+/// Opens a file to read it and to write over its bytes.
 pub fn open_update(rt: &HostRuntime, path: &[u8]) -> io::Result<fs::File> {
     let mut how = OpenOptions::new();
     how.read(true).write(true);
@@ -57,7 +57,8 @@ fn open_new(rt: &HostRuntime, path: &[u8]) -> io::Result<fs::File> {
     fs::File::create_new(rt, path_of(path)?)
 }
 
-// One read, behind what is there: how many bytes, none at the end or where the buffer is full.
+/// One read, behind what is there: how many bytes, none at the end or where the buffer is full. The place stands apart from
+/// the buffer, so that a full one costs no read: of some files an empty one fails.
 pub fn read_more(file: &fs::File, buf: &mut [u8], have: usize) -> io::Result<usize> {
     if buf.len() <= have {
         return Ok(0);
@@ -73,7 +74,7 @@ fn read_all(rt: &HostRuntime, file: &fs::File) -> io::Result<Vec<u8>> {
     Ok(bytes)
 }
 
-// Reads what is open, and leaves it open. Where there is nothing to hand back, it was said why.
+/// Reads what is open, and leaves it open. Where there is nothing to hand back, it was said why.
 pub fn read_open(rt: &HostRuntime, file: &fs::File, path: &[u8]) -> Option<Vec<u8>> {
     match read_all(rt, file) {
         Ok(bytes) if (bytes.len() as u64) < MOST => Some(bytes),
@@ -91,7 +92,7 @@ pub fn read_open(rt: &HostRuntime, file: &fs::File, path: &[u8]) -> Option<Vec<u
     }
 }
 
-// Reads a file. Where there is nothing to hand back, it was said why.
+/// Reads a file. Where there is nothing to hand back, it was said why.
 pub fn read(rt: &HostRuntime, path: &[u8]) -> Option<Vec<u8>> {
     match open(rt, path) {
         Ok(file) => read_open(rt, &file, path),
@@ -119,7 +120,7 @@ fn holds(file: &fs::File, bytes: &[u8]) -> io::Result<bool> {
     Ok(false)
 }
 
-// Whether a file is there that has just these bytes.
+/// Whether a file is there that has just these bytes.
 pub fn has(rt: &HostRuntime, path: &[u8], bytes: &[u8]) -> bool {
     match open(rt, path) {
         Ok(file) => holds(&file, bytes).unwrap_or(false),
@@ -182,12 +183,12 @@ fn side_of<'a>(room: &'a mut [u8], path: &[u8]) -> &'a [u8] {
     part(room, 0, end)
 }
 
-// Says that a file was not written, after it was said why.
+/// Says that a file was not written, after it was said why.
 pub fn unwritten(rt: &HostRuntime, path: &[u8]) {
     complain(Page::errors(rt).put(path).line(b" was not written"));
 }
 
-// Writes a file, whole or not at all: first beside it, as PATH.new, and then by a new name.
+/// Writes a file, whole or not at all: first beside it, as PATH.new, and then by a new name.
 pub fn write(rt: &HostRuntime, path: &[u8], bytes: &[u8]) -> bool {
     let mut room = [0u8; PATH_ROOM];
     let side = side_of(&mut room, path);
@@ -199,7 +200,7 @@ pub fn write(rt: &HostRuntime, path: &[u8], bytes: &[u8]) -> bool {
     is_written
 }
 
-// Writes a file that is not there yet: one that is there stays as it is.
+/// Writes a file that is not there yet: one that is there stays as it is.
 pub fn create(rt: &HostRuntime, path: &[u8], bytes: &[u8]) -> bool {
     let is_made = is_done(rt, path, fill(rt, path, bytes));
     if !is_made {

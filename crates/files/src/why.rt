@@ -1,4 +1,4 @@
-// What failed, and why, in the system's own words.
+//! What failed, and why, in the system's own words.
 use crate::complain;
 use page::Page;
 use std::fmt;
@@ -47,7 +47,7 @@ fn before_number(s: &[u8]) -> &[u8] {
     }
 }
 
-// Says what failed, and why, and sends the page.
+/// Says what failed, and why, and sends the page.
 pub fn fail(page: Page, what: &[u8], e: Error) {
     let words = words_of(e);
     let reason = before_number(part(&words.bytes, 0, words.size));

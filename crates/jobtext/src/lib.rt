@@ -1,4 +1,4 @@
-// The job list as people write it, a line a job and a line an edge: read into a list's bytes, and written again.
+//! The job list as people write it, a line a job and a line an edge: read into a list's bytes, and written again.
 #![tactic(auto)]
 
 pub mod line;

@@ -1,4 +1,4 @@
-// The fields of a list's bytes, safe at any place: 0 where the list has none.
+//! The fields of a list's bytes, safe at any place: 0 where the list has none.
 use joblist::{EDGE_BYTES, HEAD_BYTES, JOB_BYTES, MOST_JOBS};
 use text::byte_at;
 

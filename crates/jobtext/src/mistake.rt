@@ -1,16 +1,16 @@
-// A mistake in a text: the line, and what was expected there.
+//! A mistake in a text: the line, and what was expected there.
 ghost use Rattle.std.specs.Prelude.{◌≡◌};
 ghost use Rattle.jobtext.specs.declared.mistake.Mistake.TheVariants.{NoMemory};
 
 use page::Page;
 use std::alloc::{AllocError, AllocFailed};
 
-// What can be wrong with a line says what was expected there.
+/// What can be wrong with a line says what was expected there.
 pub trait Expected {
     fn put_expected(&self, page: Page) -> Page;
 }
 
-// Why a text was not read: what is wrong, and in which line; or that memory ran out.
+/// Why a text was not read: what is wrong, and in which line; or that memory ran out.
 #[derive(Clone, Copy, Debug, PartialEq, Eq)]
 pub enum Mistake<W> {
     Line(usize, W),
@@ -33,7 +33,7 @@ impl<W, T: Drop> From<AllocFailed<T>> for Mistake<W> {
     }
 }
 
-// Says where a text is mistaken, and what was expected there.
+/// Says where a text is mistaken, and what was expected there.
 pub fn put_mistake<W: Expected>(page: Page, path: &[u8], mistake: &Mistake<W>) -> Page {
     let at = page.put(path).put(b": ");
     match mistake {
@@ -45,7 +45,7 @@ pub fn put_mistake<W: Expected>(page: Page, path: &[u8], mistake: &Mistake<W>) -
     }
 }
 
-// What is wrong with a line of a job list.
+/// What is wrong with a line of a job list.
 #[derive(Clone, Copy, Debug, PartialEq, Eq)]
 pub enum Wrong {
     Name,

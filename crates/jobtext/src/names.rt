@@ -1,4 +1,4 @@
-// The names of jobs.
+//! The names of jobs.
 ghost use Rattle.std.specs.Prelude.{◌≡◌, ℕ, List, [], ◌∷◌, ◌++◌, length, map, is_ok, if◌then◌else◌};
 ghost use Rattle.std.specs.List.{position};
 ghost use Rattle.std.specs.Str.{bytes_eq};
@@ -11,7 +11,7 @@ use std::marker::Model;
 // The bytes of the longest name.
 const MOST_NAME: usize = 32;
 
-// The name of each job. A job that has none goes by its number.
+/// The name of each job. A job that has none goes by its number.
 #[derive(Drop)]
 pub struct Names {
     names: Vec<String>,
@@ -28,7 +28,7 @@ impl Model for Names {
 }
 
 impl Names {
-    // Every job goes by its number.
+    /// Every job goes by its number.
     pub fn none(alloc: Global) -> Self
         ensures { result ≡ [] }
     {
@@ -46,7 +46,7 @@ impl Names {
         Ok(())
     }
 
-    // The bytes of a job's name; none where it goes by its number.
+    /// The bytes of a job's name; none where it goes by its number.
     pub fn letters(&self, j: usize) -> &[u8]
         ensures { result.now ≡ name_in self.now j }
     {
@@ -56,14 +56,14 @@ impl Names {
         }
     }
 
-    // How many bytes a job's name has; 0 where it goes by its number.
+    /// How many bytes a job's name has; 0 where it goes by its number.
     pub fn size(&self, j: usize) -> usize
         ensures { result ≡ length (name_in self.now j) }
     {
         self.letters(j).len()
     }
 
-    // How many columns a job's name takes, or its number with the letter j.
+    /// How many columns a job's name takes, or its number with the letter j.
     pub fn width(&self, j: usize) -> usize {
         match self.size(j) {
             0 => page::digits(j).saturating_add(1),
@@ -71,14 +71,14 @@ impl Names {
         }
     }
 
-    // The job of a name.
+    /// The job of a name.
     pub fn job_of(&self, name: &[u8]) -> Option<usize>
         ensures { result ≡ position (λ n. bytes_eq n name.now) self.now }
     {
         self.names.iter().position(|n| n.as_bytes() == name)
     }
 
-    // Puts a job's name, or no more of it than k bytes; its number where it goes by that.
+    /// Puts a job's name, or no more of it than k bytes; its number where it goes by that.
     pub fn put_start(&self, page: Page, j: usize, k: usize) -> Page {
         let name = self.letters(j);
         if name.is_empty() {
@@ -87,7 +87,7 @@ impl Names {
         page.put(&name[..k.min(name.len())])
     }
 
-    // Puts a job's name.
+    /// Puts a job's name.
     pub fn put(&self, page: Page, j: usize) -> Page {
         self.put_start(page, j, MOST_NAME)
     }

@@ -1,4 +1,4 @@
-// A text read into a list's bytes, with the names of the jobs, to the first mistake.
+//! A text read into a list's bytes, with the names of the jobs, to the first mistake.
 use crate::line::{bare, number, word};
 use crate::mistake::{Mistake, Wrong};
 use crate::names::{Names, name_of};
@@ -6,7 +6,7 @@ use joblist::MOST_JOBS;
 use std::alloc::{AllocError, Global};
 use std::collections::BTreeSet;
 
-// What was read: the list's bytes, and the names.
+/// What was read: the list's bytes, and the names.
 #[derive(Drop)]
 pub struct Jobs {
     pub list: Vec<u8>,
@@ -181,7 +181,7 @@ impl Reader {
     }
 }
 
-// Reads a text: first the jobs, and then, with all names known, the edges.
+/// Reads a text: first the jobs, and then, with all names known, the edges.
 pub fn read(alloc: Global, text: &[u8]) -> Result<Jobs, Mistake<Wrong>> {
     let mut reader = Reader::new(alloc);
     for (line, number) in text.split_inclusive(|x| *x == b'\n').zip(1..) {

@@ -1,9 +1,9 @@
-// A list's bytes as text that can be read again.
+//! A list's bytes as text that can be read again.
 use crate::list;
 use crate::names::{Names, put_number};
 use page::Page;
 
-// An edge, as it is written in a list.
+/// An edge, as it is written in a list.
 pub fn put_edge(page: Page, list: &[u8], names: &Names, e: usize) -> Page {
     let first = names.put(page, list::edge_from(list, e));
     names.put(first.put(b" before "), list::edge_to(list, e))
@@ -34,14 +34,8 @@ fn put_numbers(page: Page, list: &[u8], e: usize) -> Page {
     put_number(first.put(b" before "), list::edge_to(list, e)).end()
 }
 
-// The whole list. A plan has no names, so jobs go by their numbers.
+/// The whole list. A plan has no names, so jobs go by their numbers.
 pub fn put_list(page: Page, list: &[u8]) -> Page {
-    let mut to = page;
-    for j in 0..list::jobs(list) {
-        to = put_job(to, list, j);
-    }
-    for e in 0..list::edges(list) {
-        to = put_numbers(to, list, e);
-    }
-    to
+    let jobs = (0..list::jobs(list)).fold(page, |to, j| put_job(to, list, j));
+    (0..list::edges(list)).fold(jobs, |to, e| put_numbers(to, list, e))
 }

@@ -1,4 +1,4 @@
-// Two tables as people write them, a line a run of slots: read into the tables' bytes, and written again.
+//! Two tables as people write them, a line a run of slots: read into the tables' bytes, and written again.
 #![tactic(auto)]
 
 mod mistake;

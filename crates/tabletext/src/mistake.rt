@@ -1,8 +1,8 @@
-// A mistake in a text of tables: what is wrong, and what was expected there.
+//! A mistake in a text of tables: what is wrong, and what was expected there.
 use jobtext::Expected;
 use page::Page;
 
-// What is wrong with a line, some with a number: the last slot or job that there is, or the slot that is meant.
+/// What is wrong with a line, some with a number: the last slot or job that there is, or the slot that is meant.
 #[derive(Clone, Copy, Debug, PartialEq, Eq)]
 pub enum Wrong {
     Neither,

@@ -1,11 +1,11 @@
-// A text of two tables read into their bytes, to the first mistake.
+//! A text of two tables read into their bytes, to the first mistake.
 use crate::mistake::{Mistake, Wrong};
 use joblist::Table;
 use jobtext::line::{bare, number, word};
 use jobtext::{Names, list};
 use std::alloc::{AllocError, Global};
 
-// What was read: a byte for each slot of the list.
+/// What was read: a byte for each slot of the list.
 #[derive(Drop)]
 pub struct Tables {
     pub low: Vec<u8>,
@@ -183,7 +183,7 @@ impl<'a> Reader<'a> {
     }
 }
 
-// Reads a text of the tables of a list, whose jobs have the names.
+/// Reads a text of the tables of a list, whose jobs have the names.
 pub fn read(alloc: Global, text: &[u8], list: &[u8], names: &Names) -> Result<Tables, Mistake> {
     let mut reader = Reader::new(alloc, list, names)?;
     let mut next = 1;

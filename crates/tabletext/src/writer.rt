@@ -1,4 +1,4 @@
-// Two tables as text that can be read again.
+//! Two tables as text that can be read again.
 use joblist::MOST_JOBS;
 use jobtext::Names;
 use page::{Page, digits};
@@ -42,7 +42,7 @@ fn put_table(page: Page, table: &[u8], names: &Names) -> Page {
     to
 }
 
-// Both tables.
+/// Both tables.
 pub fn put_pair(page: Page, lo: &[u8], hi: &[u8], names: &Names) -> Page {
     let low = put_table(page.line(b"LO"), lo, names);
     put_table(low.end().line(b"HI"), hi, names)

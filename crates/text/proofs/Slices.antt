@@ -1,11 +1,11 @@
 -- What the library's calls on a slice say, in the words of the definitions here.
 -- Assumes nothing.
-use Rattle.std.proofs.Common.{ℕ, zero, suc, ◌+◌, ◌-◌, ◌<◌, ◌≤◌, ◌≡◌, Bool, true, false, ◌&&◌, List, [], ◌∷◌, length, get_or, take, drop, eqb, refl, sym, ap, ◌∙◌, arith, Option, Some, None, MatchOption}
+use Rattle.std.proofs.Common.{ℕ, zero, suc, ◌+◌, ◌-◌, ◌*◌, ◌<◌, ◌≤◌, ◌≡◌, Bool, true, false, ◌&&◌, List, [], ◌∷◌, ◌++◌, length, get_or, take, drop, eqb, refl, sym, ap, ◌∙◌, arith, Option, Some, None, MatchOption}
 use Rattle.std.proofs.Math.Bool.{and_assoc, and_comm, and-true}
 use Rattle.std.proofs.lemmas.List.{get_or-drop}
 use borrow.Author.Tests.{ne_eqb}
-use lib.ListN.{length-drop}
-use Rattle.std.proofs.Math.Seq.{take-length}
+use lib.ListN.{length-drop, length-append, get_or-append}
+use Rattle.std.proofs.Math.Seq.{take-length, drop-drop, drop-append_seam}
 use Rattle.std.proofs.Math.Dec.{eqb-suc-suc}
 use Rattle.std.specs.Cmp.Lexicographic.{pointwise}
 use Rattle.std.specs.List.{list_all, AllWithin, HoldsAt}
@@ -78,3 +78,21 @@ module _ (s : List ℕ) (from x : ℕ) where
       let this : eqb (get_or s (from + i) 0) x ≡ true = rw (get_or-drop from s i 0) at (h.1 0) in
       let one = lowest_at (λ k. eqb (get_or s k 0) x) (length s) i from (from + i) refl (omega arith) (λ k a b. behind false k a (h.2 (k - from) 0 (omega arith) (omega arith))) this in
       (e ∙ sym one, omega arith, λ _. omega arith)
+
+-- a pair that comes first of what is left of s
+pub record IsPair (s pair rest : List ℕ) (i : ℕ) : Type 0 where
+  pub within : 2 * i + 1 < length s
+  pub first : get_or pair 0 0 ≡ get_or s (2 * i) 0
+  pub second : get_or pair 1 0 ≡ get_or s (2 * i + 1) 0
+  pub left : rest ≡ drop (2 * (i + 1)) s
+
+pub pair_of : (s pair rest : List ℕ) (i : ℕ) → 2 * i ≤ length s → drop (2 * i) s ≡ pair ++ rest → length pair ≡ 2 → IsPair s pair rest i
+pair_of s pair rest i w e l =
+    let n : length s - 2 * i ≡ 2 + length rest = sym (length-drop (2 * i) s) ∙ ap length e ∙ rw (length-append, l) in
+    let at : (k : ℕ) → k < 2 → get_or pair k 0 ≡ get_or s (2 * i + k) 0 = λ k h. sym (get_or-append pair rest 0 k (omega arith)) ∙ ap (λ x. get_or x k 0) (sym e) ∙ get_or-drop (2 * i) s k 0 in
+    record {
+      within = omega arith;
+      first = at 0 (omega arith) ∙ ap (λ k. get_or s k 0) (let z : 2 * i + 0 ≡ 2 * i = omega arith in z);
+      second = at 1 (omega arith);
+      left = sym (drop-append_seam pair rest) ∙ rw (l, ← e, drop-drop) (ap (λ k. drop k s) (let z : 2 * i + 2 ≡ 2 * (i + 1) = omega arith in z));
+    }

@@ -1,5 +1,5 @@
-//! Bytes as hex text, two digits a byte, in lower case; and back.
-ghost use Rattle.std.specs.Prelude.{◌≡◌, true, ◌+◌, ◌*◌, ◌<◌, ◌≤◌, length};
+//! Bytes as hex text, two digits a byte, in lower case; and back. The buffer and the place are as in `put`.
+ghost use Rattle.std.specs.Prelude.{◌≡◌, true, ◌+◌, ◌*◌, ◌/◌, ◌<◌, ◌≤◌, length};
 ghost use Rattle.basics.specs.Put.{put as placed};
 ghost use Rattle.io.specs.Digits.{hex_digit_ascii as glyph_of};
 ghost use Rattle.text.specs.Place.{put_in, next_at};
@@ -57,13 +57,13 @@ fn is_hex(s: &[u8]) -> bool
     s.len() % 2 == 0 && s.iter().all(|x| worth_of(*x) < 16)
 }
 
-// The bytes that k pairs of digits say, where they fit.
-fn unspell(out: &mut [u8], at: usize, s: &[u8], k: usize)
-    requires { (is_hex s.now ≡ true) × (2 * k ≤ length s.now) × (at + k ≤ length out.old) }
-    ensures { out.new ≡ placed out.old at (bytes_of s.now k) }
+// The bytes that pairs of digits say, where they fit.
+fn unspell(out: &mut [u8], at: usize, s: &[u8])
+    requires { (is_hex s.now ≡ true) × (at + length s.now / 2 ≤ length out.old) }
+    ensures { out.new ≡ placed out.old at (bytes_of s.now (length s.now / 2)) }
 {
-    for i in 0..k {
-        out[at + i] = 16 * worth_of(s[2 * i]) + worth_of(s[2 * i + 1]);
+    for (i, pair) in s.chunks_exact(2).enumerate() {
+        out[at + i] = 16 * worth_of(pair[0]) + worth_of(pair[1]);
     }
 }
 
@@ -74,7 +74,7 @@ pub fn put_unhex(out: &mut [u8], at: usize, s: &[u8]) -> Option<usize>
 {
     let k = s.len() / 2;
     if fits(out.len(), at, k) && is_hex(s) {
-        unspell(out, at, s, k);
+        unspell(out, at, s);
         return Some(at + k);
     }
     None

@@ -1,4 +1,5 @@
-//! Bytes and numbers put at a place of a buffer.
+//! Bytes and numbers put at a place of a buffer. The buffer and the place stay two arguments, and the next place is handed
+//! back: `put_in` and `next_at` say of each call, of one that has no room too, what it did with both.
 ghost use Rattle.std.specs.Prelude.{◌≡◌, ◌+◌, leb};
 ghost use Rattle.text.specs.Place.{put_in, next_at, NumberPut};
 
