@@ -20,20 +20,19 @@ use Rattle.joblist.specs.Fields.{edge_in}
 use Rattle.verdict.specs.Answer.{check_of, odd_entry, tables_answer}
 use Rattle.verdict.specs.declared.Fault.TheVariants.{Late}
 use Rattle.verdict.specs.declared.Objection.TheVariants.{Bad}
-use Rattle.verdict.specs.declared.Verdict.TheVariants.{No as Objects}
+use Rattle.std.specs.Prelude.{Ok, Err}
 use Rattle.planfile.specs.Plan.{plan_of}
 use Rattle.late.specs.Table.{waits}
 use Rattle.late.specs.Late.{ready as is_ready, late_at, takes, unfinished, chosen, edf_at, late_answer, target, move, moved, late_table, first_unit, first_units, late_of, tlo, thi}
 use Rattle.lotable.specs.TableLo.{unplaced, fits, later, pick, tables_at, clash_in, clash_of, table_lo}
 use Rattle.hitable.specs.TableHi.{is_high, turn, owing, hi_at, table_hi}
 use Rattle.merge.specs.declared.BuildWhy.TheVariants.{Room, LowLate, HighLate, Both, Early, Rejected}
-use Rattle.merge.specs.declared.Built.TheVariants.{Plan, No}
 use Rattle.merge.specs.Build.{pair_of, built_lo, built_hi, merge_plan, build_of, out_after}
 use Rattle.merge.specs.Cases.{example2, example3, figures, small20, small21, small22, small23, small24, both_late, stands, chained, cut, low, high, i}
 
 -- the list builds a plan of k bytes with these tables
 abbrev Builds : List ℕ → ℕ → List ℕ → List ℕ → Type 0
-Builds s k lo hi = (build_of first_edition s k ≡ Plan k) × (built_lo s ≡ lo) × (built_hi s ≡ hi)
+Builds s k lo hi = (build_of first_edition s k ≡ Ok k) × (built_lo s ≡ lo) × (built_hi s ≡ hi)
 
 -- document 000: Example 2; Example 3 with its temporary tables
 abbrev Examples : Type 0
@@ -53,13 +52,13 @@ Figures =
 -- 20 to 24, each with its place; 46 before 20, and 20 before 21
 abbrev Refusals : Type 0
 Refusals =
-    (build_of first_edition small20 28 ≡ No (LowLate 1 0))
-    × (build_of first_edition small20 27 ≡ No Room)
-    × (build_of first_edition small21 28 ≡ No (HighLate 1 0))
-    × (build_of first_edition both_late 38 ≡ No (LowLate 1 0))
-    × (build_of first_edition small22 38 ≡ No (Both 0))
-    × (build_of first_edition small23 42 ≡ No (Early 0))
-    × (build_of first_edition small24 46 ≡ No (Rejected (Objects (Bad (Late 3 0 0)))))
+    (build_of first_edition small20 28 ≡ Err (LowLate 1 0))
+    × (build_of first_edition small20 27 ≡ Err Room)
+    × (build_of first_edition small21 28 ≡ Err (HighLate 1 0))
+    × (build_of first_edition both_late 38 ≡ Err (LowLate 1 0))
+    × (build_of first_edition small22 38 ≡ Err (Both 0))
+    × (build_of first_edition small23 42 ≡ Err (Early 0))
+    × (build_of first_edition small24 46 ≡ Err (Rejected (Err (Bad (Late 3 0 0)))))
     × (out_after first_edition small24 (replicate 46 0xAA) ≡ replicate 46 0xAA)
     × (built_lo small24 ≡ 1 ∷ 0 ∷ i ∷ i ∷ i ∷ [])
     × (built_hi small24 ≡ 1 ∷ 1 ∷ 1 ∷ 0 ∷ i ∷ [])

@@ -16,9 +16,9 @@ use Rattle.basics.proofs.Choice.{earliest_is}
 use Rattle.verdict.specs.Demand.{GoodTable}
 use Rattle.late.specs.Table.{entry, units, all_idle, held}
 use Rattle.late.specs.Late.{ready, unfinished, chosen, edf_at, target, move, moved, late_table, first_unit, first_units, tlo, thi}
-use Rattle.lotable.specs.declared.Pick.{Pick}
-use Rattle.lotable.specs.declared.Pick.TheVariants.{Low, High, Idle, Both, Early}
-use Rattle.lotable.specs.TableLo.{take, Tables, pick_at, tables_at, begins, table_lo}
+use Rattle.std.specs.Prelude.{Some, None, Ok as Taken, Err}
+use Rattle.lotable.specs.declared.Source.TheVariants.{Low, High}
+use Rattle.lotable.specs.TableLo.{Pick, take, Tables, pick_at, tables_at, begins, table_lo}
 use Rattle.hitable.specs.TableHi.{Turn, front, Hi, is_high, turn, owing, place, hi_at, table_hi}
 use Rattle.merge.specs.Build.{built_lo, built_hi}
 use Rattle.merge.proofs.Laws.{built_lo_long, built_hi_long}
@@ -90,11 +90,10 @@ module _ (s : List ℕ) (few : jobs s ≤ 254) (one : 1 ≤ jobs s) where
     los : Oks p.lo
 
   ok_take : (p : Tables) (t : ℕ) (k : Pick) → Three p → Three (take p t k)
-  ok_take p t (Low k) h = record { lows = ok_set p.low k idle h.lows (inr refl); highs = h.highs; los = ok_set p.lo t (entry p.low k) h.los (h.lows k) }
-  ok_take p t (High k) h = record { lows = h.lows; highs = ok_set p.high k idle h.highs (inr refl); los = ok_set p.lo t (entry p.high k) h.los (h.highs k) }
-  ok_take p t Idle h = record { lows = h.lows; highs = h.highs; los = ok_set p.lo t idle h.los (inr refl) }
-  ok_take p t Both h = h
-  ok_take p t Early h = h
+  ok_take p t (Taken (Some (Low k))) h = record { lows = ok_set p.low k idle h.lows (inr refl); highs = h.highs; los = ok_set p.lo t (entry p.low k) h.los (h.lows k) }
+  ok_take p t (Taken (Some (High k))) h = record { lows = h.lows; highs = ok_set p.high k idle h.highs (inr refl); los = ok_set p.lo t (entry p.high k) h.los (h.highs k) }
+  ok_take p t (Taken None) h = record { lows = h.lows; highs = h.highs; los = ok_set p.lo t idle h.los (inr refl) }
+  ok_take p t (Err e) h = h
 
   ok_tables : (t : ℕ) → Three (tables_at s (begins s) t)
   unfolding tables_at tlo thi

@@ -1,85 +1,114 @@
--- Laws of copying a table, and of a build's answer step by step.
+-- Laws of a build's answer step by step.
 -- Assumes nothing.
 use Rattle.basics.specs.Marks.{idle}
 use Rattle.joblist.specs.Fields.{jobs, edges, slots}
 use Rattle.basics.specs.Limits.{Limits}
 use borrow.Author.Tests.{le-leb, lt-leb}
-use Prim.Native.Nat.{ℕ, ◌+◌, ◌<◌, ◌≤◌, zero, suc}
-use mathlib.Core.Path.{◌≡◌, refl, sym, ap, ◌∙◌}
+use Prim.Native.Nat.{ℕ, ◌<◌, ◌≤◌, zero, suc}
+use mathlib.Core.Path.{◌≡◌, refl, sym, ap, ap₂, ◌∙◌}
 use mathlib.Core.List.{List, ◌∷◌}
 use native.Mathlib.Omega.{arith}
-use native.Mathlib.Decide.{ℕ_discrete}
-use lib.ListN.{length, get_or, set, length-replicate, take, replicate}
-use lib.Seq.{get_or-set_same, get_or-set_other}
+use lib.ListN.{length, length-replicate, take, replicate}
 use Rattle.late.specs.Table.{all_idle}
-use Rattle.late.specs.Late.{thi}
-use Rattle.lotable.specs.TableLo.{begins, table_lo}
+use Rattle.std.specs.Result.{result_and}
+use Rattle.basics.specs.Chain.{◌⨾◌}
+use Rattle.late.specs.Late.{edf_at, late_answer, late_table, first_units, late_of, tlo, thi}
+use Rattle.late.specs.declared.Late.{Late}
+use Rattle.lotable.specs.TableLo.{Tables, begins, clash_of, table_lo}
 use Rattle.lotable.proofs.Laws.{lo_long}
 use Rattle.hitable.specs.TableHi.{table_hi}
 use Rattle.hitable.proofs.Laws.{hi_long}
 use Rattle.lotable.specs.declared.Clash.{Clash}
-use Rattle.lotable.specs.declared.Clash.TheVariants.{Fine, BothAt, EarlyAt}
+use Rattle.std.specs.Prelude.{Result, Ok, Err}
 use Rattle.basics.specs.Put.{put}
 use Rattle.joblist.specs.Answer.{list_answer}
 use Rattle.joblist.specs.declared.Why.{Why}
-use Rattle.joblist.specs.declared.ListAnswer.TheVariants.{Good, No as NoList}
 use Rattle.verdict.specs.Answer.{check_of}
 use Rattle.verdict.specs.declared.Objection.{Objection}
-use Rattle.verdict.specs.declared.Verdict.TheVariants.{Yes, No as Objects}
 use Rattle.planfile.specs.Plan.{plan_bytes}
 use Rattle.merge.specs.declared.BuildWhy.{BuildWhy}
-use Rattle.merge.specs.declared.BuildWhy.TheVariants.{OfList, Room, Rejected}
-use Rattle.merge.specs.declared.Pair.TheVariants.{Made, No as NoPair}
-use Rattle.merge.specs.declared.Built.{Built}
-use Rattle.merge.specs.declared.Built.TheVariants.{Plan, No}
-use Rattle.merge.specs.Build.{of_clash, pair_of, built_lo, built_hi, merge_plan, build_of, filled, out_after}
-
--- one slot more is copied
-pub copied_next : (a b : List ℕ) (t : ℕ) → t < length b → ((x : ℕ) → x < t → get_or b x 0 ≡ get_or a x 0) → (x : ℕ) → x < t + 1 → get_or (set b t (get_or a t 0)) x 0 ≡ get_or a x 0
-copied_next a b t l h x i = go (ℕ_discrete x t)
-  where
-    go : Dec (x ≡ t) → get_or (set b t (get_or a t 0)) x 0 ≡ get_or a x 0
-    go (yes p) = rw p (get_or-set_same b t (get_or a t 0) 0 l)
-    go (no p) = get_or-set_other b t x (get_or a t 0) 0 p ∙ h x (omega arith)
+use Rattle.merge.specs.declared.BuildWhy.TheVariants.{OfList, Room, LowLate, HighLate, Rejected}
+use Rattle.merge.specs.Build.{of_late, of_clash, pair_of, built_lo, built_hi, merge_plan, build_of, filled, out_after}
 
 -- a pair that is made had no clash
-pub made_fine : (x : Clash) → of_clash x ≡ Made → x ≡ Fine
-made_fine Fine e = refl
-made_fine (BothAt t) e = let z : ◌≡◌ {A = ℕ} 0 1 = cc in absurd (omega arith)
-made_fine (EarlyAt t) e = let z : ◌≡◌ {A = ℕ} 0 1 = cc in absurd (omega arith)
+pub made_fine : (x : Result (Unit {0}) Clash) → of_clash x ≡ Ok tt → x ≡ Ok tt
+made_fine (Ok u) e = refl
+made_fine (Err c) e = absurd (cc)
+
+-- 20 and 21, each from its own late table
+abbrev pub late_why : (ℕ → ℕ → BuildWhy) → Result (Unit {0}) Late → Result (Unit {0}) BuildWhy
+late_why f (Ok u) = Ok tt
+late_why f (Err e) = Err (f e.slot e.job)
+
+pub late_both : (x y : Result (Unit {0}) Late) → result_and (late_why LowLate x) (late_why HighLate y) ≡ of_late x y
+late_both (Err e) y = refl
+late_both (Ok u) (Err e) = refl
+late_both (Ok u) (Ok v) = refl
+
+-- both late tables are made in idle ones
+pub late_made : (s low high : List ℕ) (x y : Result (Unit {0}) Late) (a b r : Result (Unit {0}) BuildWhy) → low ≡ all_idle s → high ≡ all_idle s
+    → x ≡ late_answer s 0 (edf_at s 0 low (slots s)) → y ≡ late_answer s 1 (edf_at s 1 high (slots s))
+    → a ≡ late_why LowLate x → b ≡ late_why HighLate y → r ≡ result_and a b → r ≡ of_late (late_of s 0) (late_of s 1)
+unfolding late_of
+late_made s low high x y a b r i j p q m n e =
+    e
+    ∙ ap₂ result_and (m ∙ ap (late_why LowLate) (p ∙ ap (λ (t : List ℕ). late_answer s 0 (edf_at s 0 t (slots s))) i)) (n ∙ ap (late_why HighLate) (q ∙ ap (λ (t : List ℕ). late_answer s 1 (edf_at s 1 t (slots s))) j))
+    ∙ late_both (late_of s 0) (late_of s 1)
+
+-- THI as first made
+pub thi_made : (s high made kept : List ℕ) → high ≡ all_idle s → made ≡ late_table s 1 high → kept ≡ first_units s made (slots s) → kept ≡ thi s
+unfolding thi
+thi_made s high made kept i p q =
+    q ∙ ap (λ (t : List ℕ). first_units s t (slots s)) (p ∙ ap (late_table s 1) i)
+
+-- what table LO begins with
+pub begins_are : (s low made left lo : List ℕ) → low ≡ all_idle s → made ≡ late_table s 0 low → left ≡ thi s → lo ≡ all_idle s
+    → ◌≡◌ {A = Tables} (record { low = made; high = left; lo = lo }) (begins s)
+unfolding tlo
+begins_are s low made left lo i p q j = λ z. record { low = (p ∙ ap (late_table s 0) i) z; high = q z; lo = j z }
+
+-- the pair from its parts
+module _ (s : List ℕ) where
+  pub pair_late : (w : BuildWhy) → of_late (late_of s 0) (late_of s 1) ≡ Err w → pair_of s ≡ Err w
+  unfolding pair_of
+  pair_late w e = ap (λ (a : Result (Unit {0}) BuildWhy). a ⨾ of_clash (clash_of s)) e
+
+  pub pair_clash : of_late (late_of s 0) (late_of s 1) ≡ Ok tt → (a : Result (Unit {0}) Clash) → clash_of s ≡ a → pair_of s ≡ of_clash a
+  unfolding pair_of
+  pair_clash e a h = ap (λ (x : Result (Unit {0}) BuildWhy). x ⨾ of_clash (clash_of s)) e ∙ ap of_clash h
 
 -- a build's answer step by step, and the buffer after it
 module _ (lim : Limits) (s out : List ℕ) where
   -- what the call promises of an answer r and the buffer at exit
-  abbrev pub Promised : Built → List ℕ → Type 0
+  abbrev pub Promised : Result ℕ BuildWhy → List ℕ → Type 0
   Promised r after = (r ≡ build_of lim s (length out)) × (after ≡ out_after lim s out)
 
-  promised : (r : Built) → r ≡ build_of lim s (length out) → Promised r (filled r (merge_plan s) out)
+  promised : (r : Result ℕ BuildWhy) → r ≡ build_of lim s (length out) → Promised r (filled r (merge_plan s) out)
   unfolding out_after
   promised r e = (e, ap (λ x. filled x (merge_plan s) out) e)
 
-  pub refused_list : (w : Why) → list_answer lim s ≡ NoList w → Promised (No (OfList w)) out
+  pub refused_list : (w : Why) → list_answer lim s ≡ Err w → Promised (Err (OfList w)) out
   unfolding build_of
-  refused_list w e = promised (No (OfList w)) (sym (rw (build_of, e)))
+  refused_list w e = promised (Err (OfList w)) (sym (rw (build_of, e)))
 
-  module _ (good : list_answer lim s ≡ Good) where
-    pub refused_room : length out < plan_bytes (jobs s) (edges s) (slots s) → Promised (No Room) out
+  module _ (good : list_answer lim s ≡ Ok tt) where
+    pub refused_room : length out < plan_bytes (jobs s) (edges s) (slots s) → Promised (Err Room) out
     unfolding build_of
-    refused_room h = promised (No Room) (sym (rw (build_of, good, lt-leb _ _ h)))
+    refused_room h = promised (Err Room) (sym (rw (build_of, good, lt-leb _ _ h)))
 
     module _ (room : plan_bytes (jobs s) (edges s) (slots s) ≤ length out) where
-      pub refused_pair : (w : BuildWhy) → pair_of s ≡ NoPair w → Promised (No w) out
+      pub refused_pair : (w : BuildWhy) → pair_of s ≡ Err w → Promised (Err w) out
       unfolding build_of
-      refused_pair w e = promised (No w) (sym (rw (build_of, good, le-leb _ _ room, e)))
+      refused_pair w e = promised (Err w) (sym (rw (build_of, good, le-leb _ _ room, e)))
 
-      module _ (made : pair_of s ≡ Made) where
-        pub refused_check : (w : Objection) → check_of lim s (built_lo s) (built_hi s) ≡ Objects w → Promised (No (Rejected (Objects w))) out
+      module _ (made : pair_of s ≡ Ok tt) where
+        pub refused_check : (w : Objection) → check_of lim s (built_lo s) (built_hi s) ≡ Err w → Promised (Err (Rejected (Err w))) out
         unfolding build_of
-        refused_check w e = promised (No (Rejected (Objects w))) (sym (rw (build_of, good, le-leb _ _ room, made, e)))
+        refused_check w e = promised (Err (Rejected (Err w))) (sym (rw (build_of, good, le-leb _ _ room, made, e)))
 
-        pub built : check_of lim s (built_lo s) (built_hi s) ≡ Yes → Promised (Plan (length (merge_plan s))) (put out 0 (merge_plan s))
+        pub built : check_of lim s (built_lo s) (built_hi s) ≡ Ok tt → Promised (Ok (length (merge_plan s))) (put out 0 (merge_plan s))
         unfolding build_of
-        built e = promised (Plan (length (merge_plan s))) (sym (rw (build_of, good, le-leb _ _ room, made, e)))
+        built e = promised (Ok (length (merge_plan s))) (sym (rw (build_of, good, le-leb _ _ room, made, e)))
 
 -- the built tables have L slots
 pub built_lo_long : (s : List ℕ) → length (built_lo s) ≡ slots s

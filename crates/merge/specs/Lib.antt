@@ -1,3 +1,4 @@
+pub mod Lent
 pub mod Build
 pub mod Numbers
 pub mod Meaning

@@ -1,12 +1,11 @@
 -- The paper's number and place of each answer of a build.
 -- Assumes nothing.
-use Rattle.std.specs.Prelude.{ℕ}
+use Rattle.std.specs.Prelude.{ℕ, Result}
+use Rattle.refusal.specs.Answer.{number_with, place_with}
 use Rattle.joblist.specs.Numbers.{number_of, place_of}
 use Rattle.joblist.specs.declared.Place.TheVariants.{Nowhere}
 use Rattle.merge.specs.declared.BuildWhy.{BuildWhy}
 use Rattle.merge.specs.declared.BuildWhy.TheVariants.{OfList, Room, LowLate, HighLate, Both, Early, Rejected}
-use Rattle.merge.specs.declared.Built.{Built}
-use Rattle.merge.specs.declared.Built.TheVariants.{Plan, No}
 use Rattle.merge.specs.declared.BuildPlace.{BuildPlace}
 use Rattle.merge.specs.declared.BuildPlace.TheVariants.{InList, AtJob, AtSlot, Answer}
 
@@ -31,11 +30,9 @@ why_place (Early t) = AtSlot t
 why_place (Rejected v) = Answer v
 
 -- the number of an answer: 0 for a plan
-abbrev pub built_number : Built → ℕ
-built_number (Plan size) = 0
-built_number (No w) = why_number w
+abbrev pub built_number : Result ℕ BuildWhy → ℕ
+built_number a = number_with why_number a
 
 -- the place of an answer
-abbrev pub built_place : Built → BuildPlace
-built_place (Plan size) = InList Nowhere
-built_place (No w) = why_place w
+abbrev pub built_place : Result ℕ BuildWhy → BuildPlace
+built_place a = place_with (InList Nowhere) why_place a

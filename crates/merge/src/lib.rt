@@ -1,23 +1,23 @@
 // The builder: the merge method, slot for slot, and the plan of the pair that it makes.
 #![tactic(auto)]
 
-ghost use Rattle.std.specs.Prelude.{Ok, ◌≡◌, ℕ, ◌+◌, ◌≤◌, length};
+ghost use Rattle.std.specs.Prelude.{◌≡◌, ℕ, ◌+◌, ◌≤◌, length, Ok};
 ghost use Rattle.basics.specs.Limits.{first_edition};
 ghost use Rattle.joblist.specs.Fields.{jobs, edges, slots};
 ghost use Rattle.joblist.specs.Answer.{list_answer};
-ghost use Rattle.joblist.specs.Accepted.{Accepted};
+ghost use Rattle.joblist.specs.declared.Place.TheVariants.{Nowhere};
 ghost use Rattle.planfile.specs.Plan.{plan_bytes};
 ghost use Rattle.late.specs.Table.{all_idle};
-ghost use Rattle.late.specs.Late.{late_of, tlo, thi};
-ghost use Rattle.merge.specs.Build.{of_late, of_clash, pair_of, built_lo, built_hi, build_of, out_after};
-ghost use Rattle.merge.specs.Numbers.{why_number, why_place, built_number, built_place};
-ghost use Rattle.merge.specs.declared.Pair.TheVariants.{Made};
+ghost use Rattle.merge.specs.Build.{pair_of, built_lo, built_hi, build_of, out_after};
+ghost use Rattle.merge.specs.Numbers.{why_number, why_place};
+ghost use Rattle.merge.specs.declared.BuildPlace.TheVariants.{InList};
 
 use hitable::table_hi;
 use joblist::{MOST_SLOTS, Place, Table, Why};
-use late::Late;
-use lotable::Clash;
+use late::{List, keep_first, late_table};
+use lotable::{Clash, table_lo};
 use planfile::TRAILER_BYTES;
+use refusal::Refusal;
 use verdict::Verdict;
 
 // Why no plan is built, with the place; where the check says no to the pair, its whole answer.
@@ -32,18 +32,27 @@ pub enum BuildWhy {
     Rejected(Verdict),
 }
 
-// A pair of tables, before the check, or why there is none.
-#[derive(Clone, Copy)]
-pub enum Pair {
-    Made,
-    No(BuildWhy),
+impl From<Why> for BuildWhy {
+    ghost use Rattle.merge.specs.declared.BuildWhy.TheVariants.{OfList};
+
+    ghost from_gives = { λ list why. why ≡ OfList list };
+
+    fn from(list: Why) -> BuildWhy {
+        BuildWhy::OfList(list)
+    }
 }
 
-// A plan, with its length, or why there is none.
-#[derive(Clone, Copy)]
-pub enum Built {
-    Plan(usize),
-    No(BuildWhy),
+impl From<Clash> for BuildWhy {
+    ghost use Rattle.merge.specs.Build.{clash_why};
+
+    ghost from_gives = { λ clash why. why ≡ clash_why clash };
+
+    fn from(clash: Clash) -> BuildWhy {
+        match clash {
+            Clash::BothAt(t) => BuildWhy::Both(t),
+            Clash::EarlyAt(t) => BuildWhy::Early(t),
+        }
+    }
 }
 
 // Where a build is refused.
@@ -55,180 +64,107 @@ pub enum BuildPlace {
     Answer(Verdict),
 }
 
-// The paper's number of a refusal.
-pub fn why_number(w: BuildWhy) -> usize
-    ensures { result ≡ why_number w }
-{
-    match w {
-        BuildWhy::OfList(y) => joblist::number_of(y),
-        BuildWhy::Room => 46,
-        BuildWhy::LowLate(_, _) => 20,
-        BuildWhy::HighLate(_, _) => 21,
-        BuildWhy::Both(_) => 22,
-        BuildWhy::Early(_) => 23,
-        BuildWhy::Rejected(_) => 24,
+impl Refusal for BuildWhy {
+    type Place = BuildPlace;
+
+    ghost number = { why_number };
+
+    ghost place = { why_place };
+
+    ghost nowhere = { InList Nowhere };
+
+    fn number(self) -> usize {
+        match self {
+            BuildWhy::OfList(list) => list.number(),
+            BuildWhy::Room => 46,
+            BuildWhy::LowLate(_, _) => 20,
+            BuildWhy::HighLate(_, _) => 21,
+            BuildWhy::Both(_) => 22,
+            BuildWhy::Early(_) => 23,
+            BuildWhy::Rejected(_) => 24,
+        }
+    }
+
+    fn place(self) -> BuildPlace {
+        match self {
+            BuildWhy::OfList(list) => BuildPlace::InList(list.place()),
+            BuildWhy::Room => BuildWhy::nowhere(),
+            BuildWhy::LowLate(t, j) => BuildPlace::AtJob(t, j),
+            BuildWhy::HighLate(t, j) => BuildPlace::AtJob(t, j),
+            BuildWhy::Both(t) | BuildWhy::Early(t) => BuildPlace::AtSlot(t),
+            BuildWhy::Rejected(v) => BuildPlace::Answer(v),
+        }
+    }
+
+    fn nowhere() -> BuildPlace {
+        BuildPlace::InList(Place::Nowhere)
     }
 }
 
-// The paper's place of a refusal.
-pub fn why_place(w: BuildWhy) -> BuildPlace
-    ensures { result ≡ why_place w }
-{
-    match w {
-        BuildWhy::OfList(y) => BuildPlace::InList(joblist::place_of(y)),
-        BuildWhy::Room => BuildPlace::InList(Place::Nowhere),
-        BuildWhy::LowLate(t, j) => BuildPlace::AtJob(t, j),
-        BuildWhy::HighLate(t, j) => BuildPlace::AtJob(t, j),
-        BuildWhy::Both(t) => BuildPlace::AtSlot(t),
-        BuildWhy::Early(t) => BuildPlace::AtSlot(t),
-        BuildWhy::Rejected(v) => BuildPlace::Answer(v),
+// The tables that a build is lent, each of L bytes: TLO and what is left of it, THI as first made, what is left of THI, and the pair.
+#[derive(Drop)]
+struct Tables<'a> {
+    low: &'a mut [u8],
+    high: &'a mut [u8],
+    left: &'a mut [u8],
+    lo: &'a mut [u8],
+    hi: &'a mut [u8],
+}
+
+impl Tables<'_> {
+    ghost use Rattle.merge.specs.Lent.{AreIdle};
+
+    // The plan of the list into out, which has room for it.
+    fn build(self, list: List<'_>, out: &mut [u8]) -> Result<usize, BuildWhy>
+        requires accepted { list_answer first_edition list.bytes.now ≡ Ok tt }
+        requires idle { AreIdle list.bytes.now self }
+        requires room { plan_bytes (jobs list.bytes.now) (edges list.bytes.now) (slots list.bytes.now) ≤ length out.old }
+        ensures { (result ≡ build_of first_edition list.entry.bytes.now (length out.old))
+            × (out.new ≡ out_after first_edition list.entry.bytes.now out.old) }
+    {
+        let Tables {
+            low,
+            high,
+            left,
+            lo,
+            hi,
+        } = self;
+        let low_late = late_table(list, 0, low).map_err(|l| BuildWhy::LowLate(l.slot, l.job));
+        let high_late = late_table(list, 1, high).map_err(|l| BuildWhy::HighLate(l.slot, l.job));
+        low_late.and(high_late)?;
+        keep_first(list, high);
+        left.copy_from_slice(high);
+        table_lo(list, low, left, lo)?;
+        table_hi(list, lo, high, hi);
+        let v = verdict::check(list.bytes, lo, hi);
+        let Ok(()) = v else {
+            return Err(BuildWhy::Rejected(v));
+        };
+        Ok(planfile::put_plan(list.bytes, lo, hi, out))
     }
-}
-
-// The number of an answer: 0 for a plan.
-pub fn built_number(b: Built) -> usize
-    ensures { result ≡ built_number b }
-{
-    match b {
-        Built::Plan(_) => 0,
-        Built::No(w) => why_number(w),
-    }
-}
-
-// The place of an answer.
-pub fn built_place(b: Built) -> BuildPlace
-    ensures { result ≡ built_place b }
-{
-    match b {
-        Built::Plan(_) => BuildPlace::InList(Place::Nowhere),
-        Built::No(w) => why_place(w),
-    }
-}
-
-// 20 or 21: the low late table comes first.
-fn late_answer(x: Late, y: Late) -> Pair
-    ensures { result ≡ of_late x y }
-{
-    match x {
-        Late::At(t, j) => Pair::No(BuildWhy::LowLate(t, j)),
-        Late::Fine => match y {
-            Late::At(t, j) => Pair::No(BuildWhy::HighLate(t, j)),
-            Late::Fine => Pair::Made,
-        },
-    }
-}
-
-// 22 or 23.
-fn clash_answer(x: Clash) -> Pair
-    ensures { result ≡ of_clash x }
-{
-    match x {
-        Clash::Fine => Pair::Made,
-        Clash::BothAt(t) => Pair::No(BuildWhy::Both(t)),
-        Clash::EarlyAt(t) => Pair::No(BuildWhy::Early(t)),
-    }
-}
-
-// A table copied into another of the same length.
-fn copy_table(from: &[u8], to: &mut [u8])
-    requires { length from.now ≡ length to.old }
-    ensures { to.new ≡ from.now }
-{
-    for t in 0..from.len() {
-        to[t] = from[t];
-    }
-}
-
-// TLO into low and THI into high, which are idle.
-fn late_tables(list: &[u8], low: &mut [u8], high: &mut [u8]) -> Pair
-    requires { Accepted first_edition list.now × (low.old ≡ all_idle list.now) × (high.old ≡ all_idle list.now) }
-    ensures { (result ≡ of_late (late_of list.now 0) (late_of list.now 1))
-        × (low.new ≡ tlo list.now) × (high.new ≡ thi list.now) }
-{
-    let x = late::late_table(list, 0, low);
-    let y = late::late_table(list, 1, high);
-    late::keep_first(list, high);
-    late_answer(x, y)
-}
-
-// The pair into lo and hi: 20 to 23 otherwise. All five tables are of L bytes and idle.
-fn make_pair(
-    list: &[u8],
-    low: &mut [u8],
-    high: &mut [u8],
-    left: &mut [u8],
-    lo: &mut [u8],
-    hi: &mut [u8],
-) -> Pair
-    requires { Accepted first_edition list.now × (low.old ≡ all_idle list.now) × (high.old ≡ all_idle list.now) × (left.old ≡ all_idle list.now)
-        × (lo.old ≡ all_idle list.now) × (hi.old ≡ all_idle list.now) }
-    ensures { (result ≡ pair_of list.now)
-        × ((result ≡ Made) → (lo.new ≡ built_lo list.now) × (hi.new ≡ built_hi list.now)) }
-{
-    let x = late_tables(list, low, high);
-    let Pair::Made = x else {
-        return x;
-    };
-    copy_table(high, left);
-    let y = clash_answer(lotable::table_lo(list, low, left, lo));
-    let Pair::Made = y else {
-        return y;
-    };
-    table_hi(list, lo, high, hi);
-    Pair::Made
-}
-
-// The plan of an accepted list into out, which has room for it. All five tables are of L bytes and idle.
-fn build_in(
-    list: &[u8],
-    low: &mut [u8],
-    high: &mut [u8],
-    left: &mut [u8],
-    lo: &mut [u8],
-    hi: &mut [u8],
-    out: &mut [u8],
-) -> Built
-    requires { (list_answer first_edition list.now ≡ Ok tt) × (low.old ≡ all_idle list.now) × (high.old ≡ all_idle list.now) × (left.old ≡ all_idle list.now)
-        × (lo.old ≡ all_idle list.now) × (hi.old ≡ all_idle list.now) × (plan_bytes (jobs list.now) (edges list.now) (slots list.now) ≤ length out.old) }
-    ensures { (result ≡ build_of first_edition list.now (length out.old))
-        × (out.new ≡ out_after first_edition list.now out.old) }
-{
-    let p = make_pair(list, low, high, left, lo, hi);
-    if let Pair::No(w) = p {
-        return Built::No(w);
-    }
-    let v = verdict::check(list, lo, hi);
-    let Ok(()) = v else {
-        return Built::No(BuildWhy::Rejected(v));
-    };
-    Built::Plan(planfile::put_plan(list, lo, hi, out))
 }
 
 // Builds the plan of a list at the front of `out`; a refusal changes no byte of it.
-pub fn build(list: &[u8], out: &mut [u8]) -> Built
+pub fn build(list: &[u8], out: &mut [u8]) -> Result<usize, BuildWhy>
     ensures { (result ≡ build_of first_edition list.now (length out.old))
         × (out.new ≡ out_after first_edition list.now out.old) }
 {
-    let a = joblist::check_list(list);
-    if let Err(w) = a {
-        return Built::No(BuildWhy::OfList(w));
-    }
+    joblist::check_list(list)?;
     let l = joblist::slots_of(list);
     if out.len() < list.len() + 2 * l + TRAILER_BYTES {
-        return Built::No(BuildWhy::Room);
+        return Err(BuildWhy::Room);
     }
     let mut low = [Table::IDLE; MOST_SLOTS];
     let mut high = [Table::IDLE; MOST_SLOTS];
     let mut left = [Table::IDLE; MOST_SLOTS];
     let mut lo = [Table::IDLE; MOST_SLOTS];
     let mut hi = [Table::IDLE; MOST_SLOTS];
-    build_in(
-        list,
-        &mut low[..l],
-        &mut high[..l],
-        &mut left[..l],
-        &mut lo[..l],
-        &mut hi[..l],
-        out,
-    )
+    let tables = Tables {
+        low: &mut low[..l],
+        high: &mut high[..l],
+        left: &mut left[..l],
+        lo: &mut lo[..l],
+        hi: &mut hi[..l],
+    };
+    tables.build(List { bytes: list }, out)
 }
