@@ -1,4 +1,4 @@
-// The builder: the merge method, slot for slot, and the plan of the pair that it makes.
+//! The builder: the merge method, slot for slot, and the plan of the pair that it makes.
 #![tactic(auto)]
 
 ghost use Rattle.std.specs.Prelude.{◌≡◌, ℕ, ◌+◌, ◌≤◌, length, Ok};
@@ -20,8 +20,8 @@ use planfile::TRAILER_BYTES;
 use refusal::Refusal;
 use verdict::Verdict;
 
-// Why no plan is built, with the place; where the check says no to the pair, its whole answer.
-#[derive(Clone, Copy)]
+/// Why no plan is built, with the place; where the check says no to the pair, its whole answer.
+#[derive(Clone, Copy, Debug, PartialEq, Eq)]
 pub enum BuildWhy {
     OfList(Why),
     Room,
@@ -55,8 +55,8 @@ impl From<Clash> for BuildWhy {
     }
 }
 
-// Where a build is refused.
-#[derive(Clone, Copy)]
+/// Where a build is refused.
+#[derive(Clone, Copy, Debug, PartialEq, Eq)]
 pub enum BuildPlace {
     InList(Place),
     AtJob(usize, usize),
@@ -144,7 +144,7 @@ impl Tables<'_> {
     }
 }
 
-// Builds the plan of a list at the front of `out`; a refusal changes no byte of it.
+/// Builds the plan of a list at the front of `out`; a refusal changes no byte of it.
 pub fn build(list: &[u8], out: &mut [u8]) -> Result<usize, BuildWhy>
     ensures { (result ≡ build_of first_edition list.now (length out.old))
         × (out.new ≡ out_after first_edition list.now out.old) }
