@@ -1,29 +1,24 @@
 -- Document 01, 'Worked on paper': P1 to P12 as one table of cases, each with its input and what it must give.
 -- Assumes nothing.
-use Rattle.std.specs.Prelude.{ℕ, ◌≡◌, false, List, [], ◌∷◌, ◌++◌, length, replicate}
+use Rattle.std.specs.Prelude.{ℕ, ◌≡◌, false, List, [], ◌∷◌, ◌++◌, length, replicate, Ok, Err}
 use Rattle.std.proofs.Math.Option.{Option, some, none}
 use Rattle.basics.specs.Limits.{first_edition}
 use Rattle.basics.specs.Marks.{idle, no_switch}
 use Rattle.basics.specs.Put.{put}
 use Rattle.joblist.specs.declared.Place.TheVariants.{AtEdge}
-use Rattle.verdict.specs.Answer.{check_of}
+use Rattle.verdict.specs.Answer.{Verdict, check_of}
 use Rattle.verdict.specs.Numbers.{answer_number, place_of}
 use Rattle.verdict.specs.declared.Fault.TheVariants.{Late, Before}
 use Rattle.verdict.specs.declared.Spot.{Spot}
 use Rattle.verdict.specs.declared.Spot.TheVariants.{AtFault}
-use Rattle.verdict.specs.declared.Verdict.{Verdict}
-use Rattle.verdict.specs.declared.Verdict.TheVariants.{Yes, No as Objects}
 use Rattle.planfile.specs.Plan.{plan_of}
 use Rattle.merge.specs.Build.{build_of, out_after}
 use Rattle.merge.specs.Numbers.{built_number, built_place}
 use Rattle.merge.specs.declared.BuildPlace.{BuildPlace}
 use Rattle.merge.specs.declared.BuildPlace.TheVariants.{InList, AtSlot}
-use Rattle.merge.specs.declared.Built.TheVariants.{Plan}
 use Rattle.dispatch.specs.State.{step_of}
-use Rattle.machine.specs.Numbers.{answer_number as step_number}
+use Rattle.machine.specs.Numbers.{Answer, answer_number as step_number}
 use Rattle.dispatch.specs.Open.{open_of}
-use Rattle.machine.specs.declared.answer.Answer.{Answer}
-use Rattle.machine.specs.declared.answer.Answer.TheVariants.{Order, No}
 use Rattle.dispatch.specs.declared.state.State.{State}
 use Rattle.dispatch.specs.declared.state.Stepped.{Stepped}
 
@@ -53,13 +48,13 @@ lent = replicate 64 0xAA
 
 -- the place of a no
 abbrev pub spot_of : Verdict → Option Spot
-spot_of Yes = none
-spot_of (Objects w) = some (place_of w)
+spot_of (Ok y) = none
+spot_of (Err w) = some (place_of w)
 
 -- the job ordered
 abbrev pub order_in : Answer → Option ℕ
-order_in (Order j) = some j
-order_in (No w) = none
+order_in (Ok j) = some j
+order_in (Err w) = none
 
 -- what a step with a tick shows
 abbrev pub shown : ℕ → Stepped → Step
@@ -76,7 +71,7 @@ steps_from s (r ∷ rs) =
 -- what a case says: the answer, and every byte of the lent buffer
 abbrev pub Holds : Case → Type 0
 Holds (builds s lo hi) =
-    (build_of first_edition s (length lent) ≡ Plan (length (plan_of s lo hi))) × (out_after first_edition s lent ≡ put lent 0 (plan_of s lo hi))
+    (build_of first_edition s (length lent) ≡ Ok (length (plan_of s lo hi))) × (out_after first_edition s lent ≡ put lent 0 (plan_of s lo hi))
 Holds (refuses s number place) =
     (built_number (build_of first_edition s (length lent)) ≡ number) × (built_place (build_of first_edition s (length lent)) ≡ place) × (out_after first_edition s lent ≡ lent)
 Holds (plans s lo hi bytes) = plan_of s lo hi ≡ bytes
