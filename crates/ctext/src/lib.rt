@@ -1,4 +1,4 @@
-// A plan as C for firmware: its bytes and their number, and over them, for people, what is in it.
+//! A plan as C for firmware: its bytes and their number, and over them, for people, what is in it.
 #![tactic(auto)]
 
 mod name;
@@ -40,7 +40,7 @@ fn put_length(page: Page, plan: &[u8], name: &[u8]) -> Page {
     named.number(plan.len()).line(b";")
 }
 
-// The plan by a name of C's.
+/// The plan by a name of C's.
 pub fn put_source(alloc: Global, page: Page, plan: &[u8], name: &[u8]) -> Page {
     let included = put_comment(alloc, page, plan).line(b"#include <stddef.h>\n#include <stdint.h>");
     let named = included

@@ -1,4 +1,4 @@
-// Names of C.
+//! Names of C.
 
 // The words that C has taken, to C23, and those that the source itself uses.
 static TAKEN: [&[u8]; 58] = [
@@ -77,7 +77,7 @@ fn is_spelled(s: &[u8]) -> bool {
     }
 }
 
-// Whether bytes can name something in C.
+/// Whether bytes can name something in C.
 pub fn is_name(s: &[u8]) -> bool {
     is_spelled(s) && !TAKEN.contains(&s)
 }

@@ -1,4 +1,4 @@
-// The words of a command, and what they ask for.
+//! The words of a command, and what they ask for.
 
 // PLAN [JOBS], or JOBS TABLES.
 #[derive(Clone, Copy)]

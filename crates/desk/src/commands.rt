@@ -1,4 +1,4 @@
-// The commands, each with the files that it reads and writes. One that stops halfway said why.
+//! The commands, each with the files that it reads and writes. One that stops halfway said why.
 use crate::command::{Given, Look, Ticks};
 use drawing::plan::{Plan, Table};
 use files::{complain, fail, send};

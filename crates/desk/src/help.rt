@@ -1,4 +1,4 @@
-// The help: what there is to do, and how the texts are written.
+//! The help: what there is to do, and how the texts are written.
 use files::send;
 use page::Page;
 

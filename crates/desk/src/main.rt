@@ -1,4 +1,4 @@
-// desk: the command for the people at the desk. What it does is done by the proved calls; this reads, writes and prints.
+//! desk: the command for the people at the desk. What it does is done by the proved calls; this reads, writes and prints.
 #![tactic(auto)]
 
 mod command;

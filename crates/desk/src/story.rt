@@ -1,4 +1,4 @@
-// The whole story on a list of its own: a gate, a dish and a decoder share one computer.
+//! The whole story on a list of its own: a gate, a dish and a decoder share one computer.
 use drawing::plan::Plan;
 use files::send;
 use jobtext::Jobs;

@@ -1,4 +1,4 @@
-// A plan's two tables drawn to scale in the columns of a terminal.
+//! A plan's two tables drawn to scale in the columns of a terminal.
 #![tactic(auto)]
 
 pub mod plan;

@@ -1,16 +1,16 @@
-// What a plan's bytes say of its tables: nothing is asked of a caller.
+//! What a plan's bytes say of its tables: nothing is asked of a caller.
 use jobtext::{Names, list};
 use std::ops::Range;
 use verdict::count::{entries_before, entry_at};
 
-// The two tables of a plan.
+/// The two tables of a plan.
 #[derive(Clone, Copy, PartialEq, Eq)]
 pub enum Table {
     Low,
     High,
 }
 
-// A plan's bytes, and the names of its jobs.
+/// A plan's bytes, and the names of its jobs.
 #[derive(Clone, Copy)]
 pub struct Plan<'a> {
     pub bytes: &'a [u8],
@@ -18,21 +18,22 @@ pub struct Plan<'a> {
 }
 
 impl<'a> Plan<'a> {
+    /// Its job list.
     pub fn list(self) -> &'a [u8] {
         planfile::list_of(self.bytes)
     }
 
-    // The numbers of its jobs.
+    /// The numbers of its jobs.
     pub fn jobs(self) -> Range<usize> {
         0..list::jobs(self.list())
     }
 
-    // The numbers of its slots.
+    /// The numbers of its slots.
     pub fn slots(self) -> Range<usize> {
         0..list::slots(self.list())
     }
 
-    // The entries of a table.
+    /// The entries of a table.
     pub fn table(self, table: Table) -> &'a [u8] {
         match table {
             Table::Low => planfile::low_of(self.bytes),
@@ -40,12 +41,12 @@ impl<'a> Plan<'a> {
         }
     }
 
-    // The entry of slot t.
+    /// The entry of slot t.
     pub fn entry(self, table: Table, t: usize) -> usize {
         entry_at(self.table(table), t)
     }
 
-    // How many of a table's slots before slot t name a job.
+    /// How many of a table's slots before slot t name a job.
     pub fn entries(self, table: Table, j: usize, t: usize) -> usize {
         entries_before(self.table(table), j, t)
     }
@@ -58,14 +59,14 @@ impl<'a> Plan<'a> {
             && list::ordinary(list, j) < list::high(list, j)
     }
 
-    // Whether a high job with CHI > CLO has its CLO-th unit in slot t of table LO.
+    /// Whether a high job with CHI > CLO has its CLO-th unit in slot t of table LO.
     pub fn switches(self, t: usize) -> bool {
         let j = self.entry(Table::Low, t);
         let before = list::ordinary(self.list(), j).saturating_sub(1);
         self.may_switch(j) && self.entries(Table::Low, j, t) == before
     }
 
-    // Whether job j may run in slot t.
+    /// Whether job j may run in slot t.
     pub fn is_open(self, j: usize, t: usize) -> bool {
         let list = self.list();
         (list::arrival(list, j)..list::deadline(list, j)).contains(&t)

@@ -1,4 +1,4 @@
-// The two tables in the columns of a terminal: a row a job, from its arrival to its deadline.
+//! The two tables in the columns of a terminal: a row a job, from its arrival to its deadline.
 use crate::plan::{Plan, Table};
 use jobtext::list;
 use page::Page;
@@ -224,14 +224,14 @@ fn put_switch(page: Page, plan: Plan, t: usize) -> Page {
     named.line(b" has not ended after it, the rest of the frame is table HI's")
 }
 
-// The counts of a list.
+/// The counts of a list.
 pub fn put_counts(page: Page, list: &[u8]) -> Page {
     let jobs = page.count(list::jobs(list), b"job").put(b", ");
     let edges = jobs.count(list::edges(list), b"edge").put(b", ");
     edges.count(list::slots(list), b"slot")
 }
 
-// The counts and the whole of both tables.
+/// The counts and the whole of both tables.
 pub fn put_tables(page: Page, plan: Plan, in_colour: bool) -> Page {
     let counted = put_counts(page.blank(1), plan.list()).end().end();
     let blocks = plan.slots().step_by(FOLD);

@@ -1,4 +1,4 @@
-// The night on which a plan goes wrong, as an SVG picture: the slots that ran are full, and those that did not are hollow.
+//! The night on which a plan goes wrong, as an SVG picture: the slots that ran are full, and those that did not are hollow.
 #![tactic(auto)]
 
 use drawing::plan::{Plan, Table};
@@ -117,7 +117,7 @@ fn put_bad(page: Page, night: Night, f: Fault) -> Page {
     put_fault(put_switch(ran, grid, switch), grid, f).line(b"</svg>")
 }
 
-// The night behind the fault of a plan; nothing where the check names none.
+/// The night behind the fault of a plan; nothing where the check names none.
 pub fn put_picture(page: Page, plan: Plan) -> Page {
     let w = witness_of(plan);
     let Err(Objection::Bad(f)) = w.verdict else {

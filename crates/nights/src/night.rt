@@ -1,9 +1,9 @@
-// One execution, slot by slot, as document 01 has it: what each job needs and has had, and the table in force.
+//! One execution, slot by slot, as document 01 has it: what each job needs and has had, and the table in force.
 use drawing::plan::{Plan, Table};
 use joblist::MOST_JOBS;
 use jobtext::list;
 
-// The units that a job needs, and those that it has had.
+/// The units that a job needs, and those that it has had.
 #[derive(Clone, Copy, Default)]
 pub struct Work {
     pub need: usize,
@@ -16,7 +16,7 @@ impl Work {
     }
 }
 
-// What stands at the opening of a slot: the work of each job of the plan, and the table in force.
+/// What stands at the opening of a slot: the work of each job of the plan, and the table in force.
 #[derive(Clone, Copy)]
 pub struct Night<'a> {
     pub plan: Plan<'a>,
@@ -24,8 +24,8 @@ pub struct Night<'a> {
     work: [Work; MOST_JOBS],
 }
 
-// What a slot does: none is named; the job runs; it has ended; or in HI, of a low job: it has not arrived, its deadline is
-// past, or it waits for another.
+/// What a slot does: none is named; the job runs; it has ended; or in HI, of a low job: it has not arrived, its deadline is
+/// past, or it waits for another.
 #[derive(Clone, Copy)]
 pub enum Slot {
     Idle,
@@ -37,7 +37,7 @@ pub enum Slot {
 }
 
 impl<'a> Night<'a> {
-    // The frame opens in LO.
+    /// The frame opens in LO.
     pub fn opened(plan: Plan<'a>, needs: [u16; MOST_JOBS]) -> Self {
         Night {
             plan,
@@ -49,7 +49,7 @@ impl<'a> Night<'a> {
         }
     }
 
-    // The work of job j; none where there is no such job.
+    /// The work of job j; none where there is no such job.
     pub fn work(&self, j: usize) -> Work {
         self.work.get(j).copied().unwrap_or_default()
     }
@@ -78,7 +78,7 @@ impl<'a> Night<'a> {
         }
     }
 
-    // What slot t does.
+    /// What slot t does.
     pub fn slot(&self, t: usize) -> Slot {
         let list = self.plan.list();
         let j = self.plan.entry(self.table, t);
@@ -107,7 +107,7 @@ impl<'a> Night<'a> {
         self
     }
 
-    // What stands after a slot.
+    /// What stands after a slot.
     pub fn next(self, slot: Slot) -> Self {
         match slot {
             Slot::Runs(j) => self.ran(j),

@@ -1,11 +1,11 @@
-// A night in words: what each job needs, what each slot does, and last what is wrong.
+//! A night in words: what each job needs, what each slot does, and last what is wrong.
 use crate::night::{Night, Slot};
 use drawing::plan::{Plan, Table};
 use jobtext::list;
 use page::Page;
 use verdict::Fault;
 
-// Where a fault is: its slot, its job and its switch slot.
+/// Where a fault is: its slot, its job and its switch slot.
 #[derive(Clone, Copy)]
 pub struct At {
     pub slot: usize,
@@ -23,7 +23,7 @@ impl From<Fault> for At {
     }
 }
 
-// The budgets of a job; a low one has no second.
+/// The budgets of a job; a low one has no second.
 pub fn budgets(page: Page, list: &[u8], j: usize) -> Page {
     let first = page.put(b" (CLO ").number(list::ordinary(list, j));
     if !list::is_high(list, j) {
@@ -143,7 +143,7 @@ impl<'a> Columns<'a> {
     }
 }
 
-// The whole night.
+/// The whole night.
 pub fn put_slots(page: Page, night: Night, f: Fault) -> Page {
     let columns = Columns::new(night.plan);
     let said = page

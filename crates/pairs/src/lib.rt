@@ -1,6 +1,6 @@
-// What a command is given: a plan file, with a job list that lends its names; or a job list, with its two tables drawn by
-// hand. Both come out as the bytes of a plan with the names of its jobs, so that a command is made once. Where nothing comes
-// out, it was said why.
+//! What a command is given: a plan file, with a job list that lends its names; or a job list, with its two tables drawn by
+//! hand. Both come out as the bytes of a plan with the names of its jobs, so that a command is made once. Where nothing comes
+//! out, it was said why.
 #![tactic(auto)]
 
 use drawing::plan::Plan;
@@ -8,7 +8,7 @@ use files::{complain, fail, send};
 use jobtext::{Jobs, Names};
 use page::Page;
 
-// Where the tables of a pair are from: a plan file, whose names may be those of another list; or they were drawn by hand.
+/// Where the tables of a pair are from: a plan file, whose names may be those of another list; or they were drawn by hand.
 #[derive(Clone, Copy, PartialEq, Eq)]
 pub enum Source {
     Plan,
@@ -16,7 +16,7 @@ pub enum Source {
     Drawn,
 }
 
-// The file of the tables; the bytes of a plan, which the check may have something against; and the names of its jobs.
+/// The file of the tables; the bytes of a plan, which the check may have something against; and the names of its jobs.
 #[derive(Drop)]
 pub struct Pair<'a> {
     pub path: &'a [u8],
@@ -26,6 +26,7 @@ pub struct Pair<'a> {
 }
 
 impl Pair<'_> {
+    /// The plan that a command is about.
     pub fn plan(&self) -> Plan<'_> {
         Plan {
             bytes: &self.bytes,
@@ -34,7 +35,7 @@ impl Pair<'_> {
     }
 }
 
-// Reads a text of jobs that stands in a file.
+/// Reads a text of jobs that stands in a file.
 pub fn jobs_in(rt: &HostRuntime, path: &[u8], text: &[u8]) -> Option<Jobs> {
     match jobtext::read(rt.alloc(), text) {
         Ok(jobs) => Some(jobs),
@@ -45,7 +46,7 @@ pub fn jobs_in(rt: &HostRuntime, path: &[u8], text: &[u8]) -> Option<Jobs> {
     }
 }
 
-// Reads a file of jobs.
+/// Reads a file of jobs.
 pub fn read_jobs(rt: &HostRuntime, path: &[u8]) -> Option<Jobs> {
     let text = files::read(rt, path)?;
     jobs_in(rt, path, &text)
@@ -80,7 +81,7 @@ fn named<'a>(
     })
 }
 
-// A plan file, with the names of its jobs.
+/// A plan file, with the names of its jobs.
 pub fn planned<'a>(rt: &HostRuntime, path: &'a [u8], from: Option<&[u8]>) -> Option<Pair<'a>> {
     let bytes = files::read(rt, path)?;
     named(rt, path, bytes, from)
@@ -114,7 +115,7 @@ fn with_tables<'a>(rt: &HostRuntime, jobs: Jobs, path: &'a [u8], page: Page) -> 
     }
 }
 
-// A file of jobs and the file of its tables.
+/// A file of jobs and the file of its tables.
 pub fn drawn<'a>(rt: &HostRuntime, jobs: &[u8], path: &'a [u8], page: Page) -> Option<Pair<'a>> {
     with_tables(rt, read_jobs(rt, jobs)?, path, page)
 }
@@ -124,7 +125,7 @@ fn is_text(s: &[u8]) -> bool {
     !s.is_empty() && !s.contains(&0)
 }
 
-// PLAN [JOBS], or JOBS TABLES: what the first file is decides. The page is for what is against a list.
+/// PLAN [JOBS], or JOBS TABLES: what the first file is decides. The page is for what is against a list.
 pub fn given<'a>(
     rt: &HostRuntime,
     path: &'a [u8],

@@ -1,4 +1,4 @@
-// A plan's two tables as an SVG picture.
+//! A plan's two tables as an SVG picture.
 #![tactic(auto)]
 
 use drawing::plan::{Plan, Table};
@@ -44,7 +44,7 @@ fn put_heading(page: Page, list: &[u8]) -> Page {
     put_legend(text_end(counted))
 }
 
-// The whole picture.
+/// The whole picture.
 pub fn put_picture(page: Page, plan: Plan) -> Page {
     let sheet = Sheet::new(plan);
     let low = sheet.grid(Table::Low);

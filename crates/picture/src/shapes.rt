@@ -1,4 +1,4 @@
-// The shapes of a picture, and its text.
+//! The shapes of a picture, and its text.
 use jobtext::Names;
 use page::Page;
 
@@ -20,7 +20,7 @@ fn element(page: Page, kind: &[u8], class: &[u8]) -> Page {
     page.put(kind).put(b" class=\"").put(class)
 }
 
-// An upright rectangle, by its upper left corner.
+/// An upright rectangle, by its upper left corner.
 #[derive(Clone, Copy)]
 pub struct Rectangle {
     pub x: usize,
@@ -30,6 +30,7 @@ pub struct Rectangle {
 }
 
 impl Rectangle {
+    /// Puts it, in the look of a class.
     pub fn put(self, page: Page, class: &[u8]) -> Page {
         let at = attribute(element(page, b"<rect", class), b"\" x=\"", self.x);
         let down = attribute(at, b" y=\"", self.y);
@@ -38,23 +39,25 @@ impl Rectangle {
     }
 }
 
-// A line downwards.
+/// A line downwards.
 pub fn upright(page: Page, class: &[u8], x: usize, from: usize, to: usize) -> Page {
     let at = attribute(element(page, b"<line", class), b"\" x1=\"", x);
     let down = attribute(attribute(at, b" x2=\"", x), b" y1=\"", from);
     attribute(down, b" y2=\"", to).line(b"/>")
 }
 
-// The start of a text, to its first byte.
+/// The start of a text, to its first byte.
 pub fn text_at(page: Page, class: &[u8], x: usize, y: usize) -> Page {
     let at = attribute(element(page, b"<text", class), b"\" x=\"", x);
     attribute(at, b" y=\"", y).put(b">")
 }
 
+/// The end of a text.
 pub fn text_end(page: Page) -> Page {
     page.line(b"</text>")
 }
 
+/// A whole text.
 pub fn label(page: Page, class: &[u8], x: usize, y: usize, s: &[u8]) -> Page {
     text_end(text_at(page, class, x, y).put(s))
 }
@@ -69,6 +72,7 @@ fn put_letter(page: Page, x: &u8) -> Page {
     }
 }
 
+/// The name of a job, as a picture's text has to have it.
 pub fn name(page: Page, names: &Names, j: usize) -> Page {
     let letters = names.letters(j);
     if letters.is_empty() {
@@ -93,6 +97,7 @@ fn size(page: Page, w: usize, h: usize) -> Page {
     attribute(fixed.put(b" viewBox=\"0 0 ").number(w), b" ", h)
 }
 
+/// The start of a picture: its size, how each kind looks, and its back.
 pub fn head(page: Page, width: usize, height: usize) -> Page {
     let opened = page.put(b"<svg xmlns=\"http://www.w3.org/2000/svg\"");
     let styled = size(opened, width, height).line(b">").put(STYLE);
@@ -105,7 +110,7 @@ pub fn head(page: Page, width: usize, height: usize) -> Page {
     back.put(styled, b"back")
 }
 
-// What a colour says.
+/// What a colour says.
 pub fn key(page: Page, class: &[u8], x: usize, s: &[u8]) -> Page {
     let colour = Rectangle {
         x,

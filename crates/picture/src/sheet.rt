@@ -1,4 +1,4 @@
-// A sheet of slots and jobs: where each slot and row begins, its numbers, and the windows of the jobs.
+//! A sheet of slots and jobs: where each slot and row begins, its numbers, and the windows of the jobs.
 use crate::shapes::{Rectangle, bracket, name, text_at, text_end, upright};
 use drawing::plan::{Plan, Table};
 use jobtext::list;
@@ -62,7 +62,7 @@ fn height(rows: usize) -> usize {
     rows.saturating_mul(ROW)
 }
 
-// The measures of a picture: where slot 0 begins, and how wide slots are.
+/// The measures of a picture: where slot 0 begins, and how wide slots are.
 #[derive(Clone, Copy)]
 pub struct Sheet<'a> {
     pub plan: Plan<'a>,
@@ -79,6 +79,7 @@ fn margin(plan: Plan) -> usize {
 }
 
 impl<'a> Sheet<'a> {
+    /// The measures for a plan.
     pub fn new(plan: Plan<'a>) -> Self {
         Sheet {
             plan,
@@ -87,18 +88,18 @@ impl<'a> Sheet<'a> {
         }
     }
 
-    // Where slot t begins.
+    /// Where slot t begins.
     pub fn x_of(self, t: usize) -> usize {
         self.left
             .saturating_add(t.saturating_mul(self.scale.width()))
     }
 
-    // Where the last slot ends.
+    /// Where the last slot ends.
     pub fn end(self) -> usize {
         self.x_of(list::slots(self.plan.list()))
     }
 
-    // One of its tables: LO, or HI under it.
+    /// One of its tables: LO, or HI under it.
     pub fn grid(self, table: Table) -> Grid<'a> {
         let under = height(list::jobs(self.plan.list()));
         Grid {
@@ -112,7 +113,7 @@ impl<'a> Sheet<'a> {
     }
 }
 
-// A table of a sheet, and where its first row begins.
+/// A table of a sheet, and where its first row begins.
 #[derive(Clone, Copy)]
 pub struct Grid<'a> {
     pub sheet: Sheet<'a>,
@@ -121,17 +122,17 @@ pub struct Grid<'a> {
 }
 
 impl Grid<'_> {
-    // Where row k begins.
+    /// Where row k begins.
     pub fn y_of(self, k: usize) -> usize {
         self.top.saturating_add(height(k))
     }
 
-    // Where the last row ends.
+    /// Where the last row ends.
     pub fn bottom(self) -> usize {
         self.y_of(list::jobs(self.sheet.plan.list()))
     }
 
-    // Whether a job has a slot.
+    /// Whether a job has a slot.
     pub fn has(self, j: usize, t: usize) -> bool {
         self.sheet.plan.entry(self.table, t) == j
     }
@@ -144,6 +145,7 @@ impl Grid<'_> {
         text_end(text_at(line, b"small", x.saturating_add(3), y).number(t))
     }
 
+    /// The numbers over the slots.
     pub fn put_numbers(self, page: Page) -> Page {
         let numbered = self
             .sheet
@@ -175,14 +177,14 @@ impl Grid<'_> {
         bracket(opened, to.saturating_sub(5), y, b"h5", b"h-5")
     }
 
-    // The name of a job before its window.
+    /// The name of a job before its window.
     pub fn put_row(self, page: Page, j: usize) -> Page {
         let x = self.sheet.left.saturating_sub(12);
         let label = text_at(page, b"name", x, self.y_of(j).saturating_add(17));
         self.put_window(text_end(name(label, self.sheet.plan.names, j)), j)
     }
 
-    // A slot of a job's row.
+    /// A slot of a job's row.
     pub fn put_slot(self, page: Page, class: &[u8], j: usize, t: usize) -> Page {
         let slot = Rectangle {
             x: self.sheet.x_of(t).saturating_add(1),
@@ -193,7 +195,7 @@ impl Grid<'_> {
         slot.put(page, class)
     }
 
-    // A slot in the colour of the job's level.
+    /// A slot in the colour of the job's level.
     pub fn put_filled(self, page: Page, j: usize, t: usize) -> Page {
         if list::is_high(self.sheet.plan.list(), j) {
             return self.put_slot(page, b"high", j, t);

@@ -1,5 +1,5 @@
-// What building, writing and checking say, on a page. The calls stand here by themselves: what they promise is proved where
-// they are made, and no page needs it.
+//! What building, writing and checking say, on a page. The calls stand here by themselves: what they promise is proved where
+//! they are made, and no page needs it.
 #![tactic(auto)]
 
 use drawing::plan::Plan;
@@ -13,7 +13,7 @@ use text::part;
 use verdict::Objection;
 use words::No;
 
-// No plan has more bytes: the largest list, two tables and the trailer.
+/// No plan has more bytes: the largest list, two tables and the trailer.
 pub const PLAN_ROOM: usize = HEAD_BYTES
     + JOB_BYTES * MOST_JOBS
     + EDGE_BYTES * MOST_EDGES
@@ -36,11 +36,12 @@ fn read(plan: &[u8]) -> Result<Shape, ReadWhy> {
     planfile::read(plan)
 }
 
+/// The list of a plan.
 pub fn list_of(plan: &[u8]) -> &[u8] {
     planfile::list_of(plan)
 }
 
-// The bytes of a plan with these parts, whatever the check says of them.
+/// The bytes of a plan with these parts, whatever the check says of them.
 pub fn join(alloc: Global, list: &[u8], lo: &[u8], hi: &[u8]) -> Result<Vec<u8>, AllocError> {
     let mut bytes = Vec::new(alloc);
     bytes.extend_from_slice(list)?;
@@ -51,23 +52,24 @@ pub fn join(alloc: Global, list: &[u8], lo: &[u8], hi: &[u8]) -> Result<Vec<u8>,
     Ok(bytes)
 }
 
-// Builds the plan of a list, at the front of a room.
+/// Builds the plan of a list, at the front of a room.
 pub fn build<'a>(list: &[u8], room: &'a mut [u8]) -> Result<&'a [u8], No> {
     let size = built(list, room)?;
     Ok(part(room, 0, size))
 }
 
-// Writes the plan of the parts that were joined, at the front of a room.
+/// Writes the plan of the parts that were joined, at the front of a room.
 pub fn write<'a>(plan: &[u8], room: &'a mut [u8]) -> Result<&'a [u8], No> {
     let size = written(plan, room).map_err(|w| No::of(w))?;
     Ok(part(room, 0, size))
 }
 
-// Whether bytes are a list; why not.
+/// Whether bytes are a list; why not.
 pub fn check_list(list: &[u8]) -> Result<(), No> {
     joblist::check_list(list).map_err(|w| No::of(w))
 }
 
+/// Whether the check says yes to a plan.
 pub fn is_accepted(plan: &[u8]) -> bool {
     read(plan).is_ok()
 }
@@ -77,7 +79,7 @@ fn is_fault(w: ReadWhy) -> bool {
     matches!(w, ReadWhy::Checked(Objection::Bad(_)))
 }
 
-// Whether a plan is whole, though the check may find a fault in its tables.
+/// Whether a plan is whole, though the check may find a fault in its tables.
 pub fn is_whole(plan: &[u8]) -> bool {
     match read(plan) {
         Ok(_) => true,
@@ -89,7 +91,7 @@ fn put_no(page: Page, plan: Plan, w: ReadWhy) -> Page {
     words::tell(page, plan.list(), plan.names, No::of(w))
 }
 
-// The fault of a plan, or why it is none; nothing where it is accepted.
+/// The fault of a plan, or why it is none; nothing where it is accepted.
 pub fn put_fault(page: Page, plan: Plan) -> Page {
     match read(plan.bytes) {
         Ok(_) => page,
@@ -97,7 +99,7 @@ pub fn put_fault(page: Page, plan: Plan) -> Page {
     }
 }
 
-// The counts of a plan, after a yes.
+/// The counts of a plan, after a yes.
 pub fn put_yes(page: Page, path: &[u8], plan: &[u8]) -> Page {
     let named = page.put(b"yes: ").put(path).put(b", ");
     let counted = named.count(plan.len(), b"byte").put(b": ");
@@ -113,7 +115,7 @@ fn put_night(page: Page) -> Page {
     page.line(b" shows a night on which it happens")
 }
 
-// Yes, or the fault.
+/// Yes, or the fault.
 pub fn put_check(page: Page, path: &[u8], plan: Plan) -> Page {
     match read(plan.bytes) {
         Ok(_) => put_yes(page, path, plan.bytes),
@@ -122,13 +124,13 @@ pub fn put_check(page: Page, path: &[u8], plan: Plan) -> Page {
     }
 }
 
-// There is no such night.
+/// There is no such night.
 pub fn put_good(page: Page, path: &[u8]) -> Page {
     let to = page.put(b"yes: ").put(path);
     to.line(b": every night is good, so there is none to show")
 }
 
-// Yes, or the fault, of two tables that were drawn by hand and are no plan yet.
+/// Yes, or the fault, of two tables that were drawn by hand and are no plan yet.
 pub fn put_drawn(page: Page, jobs: &[u8], path: &[u8], plan: Plan) -> Page {
     match read(plan.bytes) {
         Ok(_) => {
@@ -142,7 +144,7 @@ pub fn put_drawn(page: Page, jobs: &[u8], path: &[u8], plan: Plan) -> Page {
     }
 }
 
-// Both tables, with the fault where there is one.
+/// Both tables, with the fault where there is one.
 pub fn put_show(page: Page, plan: Plan) -> Page {
     let in_colour = page.is_terminal();
     put_fault(drawing::put_tables(page, plan, in_colour), plan)

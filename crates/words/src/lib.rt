@@ -1,4 +1,4 @@
-// Every refusal in words: what its number means, what to do about it, and where it is.
+//! Every refusal in words: what its number means, what to do about it, and where it is.
 #![tactic(auto)]
 
 mod number;

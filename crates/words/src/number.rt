@@ -1,4 +1,4 @@
-// Every number of a refusal in words: what it means, and what to do about it.
+//! Every number of a refusal in words: what it means, and what to do about it.
 use page::Page;
 
 struct Refusal {
@@ -199,12 +199,12 @@ fn of_number(number: usize) -> &'static Refusal {
         .unwrap_or(&NO_REFUSAL)
 }
 
-// What a number means; nothing where no refusal has it.
+/// What a number means; nothing where no refusal has it.
 pub fn meaning(page: Page, number: usize) -> Page {
     page.put(of_number(number).meaning.as_bytes())
 }
 
-// What to do about it.
+/// What to do about it.
 pub fn advice(page: Page, number: usize) -> Page {
     page.put(of_number(number).advice.as_bytes())
 }
@@ -215,7 +215,7 @@ fn put_refusal(page: Page, r: &Refusal) -> Page {
     to.put(b"do: ").line(r.advice.as_bytes())
 }
 
-// All of them.
+/// All of them.
 pub fn table(page: Page) -> Page {
     REFUSALS.iter().fold(page, put_refusal)
 }

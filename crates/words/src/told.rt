@@ -1,4 +1,4 @@
-// A refusal with its place, told in the names of the jobs.
+//! A refusal with its place, told in the names of the jobs.
 use crate::number;
 use joblist::Place;
 use jobtext::{Names, put_edge};
@@ -7,7 +7,7 @@ use page::Page;
 use refusal::Refusal;
 use verdict::{Fault, Objection, Spot};
 
-// A place: one of the check's; the builder's slot and job; or what the check has against the pair that was built.
+/// A place: one of the check's; the builder's slot and job; or what the check has against the pair that was built.
 #[derive(Clone, Copy)]
 pub enum At {
     Spot(Spot),
@@ -39,7 +39,7 @@ impl From<BuildPlace> for At {
     }
 }
 
-// A refusal: its number and its place.
+/// A refusal: its number and its place.
 #[derive(Clone, Copy)]
 pub struct No {
     number: usize,
@@ -47,6 +47,7 @@ pub struct No {
 }
 
 impl No {
+    /// Why something is refused, as it is told.
     pub fn of<W: Refusal>(why: W) -> Self
     where
         At: From<W::Place>,
@@ -68,7 +69,7 @@ impl From<BuildWhy> for No {
     }
 }
 
-// What a line under an answer is about.
+/// What a line under an answer is about.
 pub fn label(page: Page, s: &[u8]) -> Page {
     page.blank(4).left(s, 12)
 }
@@ -148,7 +149,7 @@ fn put_number(page: Page, number: usize) -> Page {
     number::meaning(to, number).end()
 }
 
-// A refusal, on a few lines; the first begins with `no`.
+/// A refusal, on a few lines; the first begins with `no`.
 pub fn tell(page: Page, list: &[u8], names: &Names, no: No) -> Page {
     let placed = Jobs { list, names }.put_place(put_number(page, no.number), no.at);
     number::advice(label(placed, b"do"), no.number).end()
