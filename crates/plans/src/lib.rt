@@ -5,7 +5,7 @@
 use drawing::plan::Plan;
 use drawing::put_counts;
 use joblist::{EDGE_BYTES, HEAD_BYTES, JOB_BYTES, MOST_EDGES, MOST_JOBS, MOST_SLOTS};
-use merge::{BuildWhy, Built};
+use merge::BuildWhy;
 use page::Page;
 use planfile::{ReadWhy, Shape, TRAILER_BYTES, WriteWhy};
 use std::alloc::{AllocError, Global};
@@ -21,10 +21,7 @@ pub const PLAN_ROOM: usize = HEAD_BYTES
     + TRAILER_BYTES;
 
 fn built(list: &[u8], room: &mut [u8]) -> Result<usize, BuildWhy> {
-    match merge::build(list, room) {
-        Built::Plan(k) => Ok(k),
-        Built::No(w) => Err(w),
-    }
+    merge::build(list, room)
 }
 
 fn written(plan: &[u8], room: &mut [u8]) -> Result<usize, WriteWhy> {
@@ -54,7 +51,7 @@ pub fn join(alloc: Global, list: &[u8], lo: &[u8], hi: &[u8]) -> Result<Vec<u8>,
 
 /// Builds the plan of a list, at the front of a room.
 pub fn build<'a>(list: &[u8], room: &'a mut [u8]) -> Result<&'a [u8], No> {
-    let size = built(list, room)?;
+    let size = built(list, room).map_err(|w| No::of(w))?;
     Ok(part(room, 0, size))
 }
 

@@ -2,7 +2,7 @@
 use crate::number;
 use joblist::Place;
 use jobtext::{Names, put_edge};
-use merge::{BuildPlace, BuildWhy};
+use merge::BuildPlace;
 use page::Page;
 use refusal::Refusal;
 use verdict::{Fault, Objection, Spot};
@@ -55,16 +55,6 @@ impl No {
         No {
             number: why.number(),
             at: At::from(why.place()),
-        }
-    }
-}
-
-// Why nothing was built.
-impl From<BuildWhy> for No {
-    fn from(w: BuildWhy) -> Self {
-        No {
-            number: merge::why_number(w),
-            at: At::from(merge::why_place(w)),
         }
     }
 }
