@@ -1,4 +1,5 @@
-//! Numbers of columns and places, which never run over.
+//! Numbers of columns and places, which never run over. They are the library's methods, which the crates above call by their
+//! own names; these stay, since they are promised.
 ghost use Rattle.std.specs.Prelude.{◌≡◌, ◌+◌, ◌-◌, min};
 
 /// The difference; 0 where it would be below 0.

@@ -1,4 +1,4 @@
-//! Bytes of a slice, at any place.
+//! Bytes of a slice, at any place. They are the library's own; the names stay, since they are promised.
 ghost use Rattle.std.specs.Prelude.{◌≡◌, get_or};
 ghost use Rattle.text.specs.Slice.{between, same_bytes};
 
