@@ -1,4 +1,4 @@
-// The called crates' answers as records of numbers.
+//! The called crates' answers as records of numbers.
 ghost use Rattle.std.specs.Prelude.{◌≡◌};
 ghost use Rattle.hut.specs.Answer.{place_at, nowhere, at_edge, list_place, fault_place, spot_place, verdict_place, build_place, says, brought};
 ghost use Rattle.hut.specs.Calls.{check_answer, counts_of, read_answer, read_result, write_answer, build_answer, step_answer};
@@ -136,6 +136,7 @@ impl Answer {
 impl From<Verdict> for Answer {
     ghost from_gives = { λ v r. r ≡ check_answer v };
 
+    #[tactic(auto, unfolding(crate::specs::Calls::check_answer))]
     fn from(v: Verdict) -> Answer {
         Answer::says(answer_number(v), v.into())
     }
@@ -145,6 +146,7 @@ impl From<Verdict> for Answer {
 impl From<Result<Shape, ReadWhy>> for Answer {
     ghost from_gives = { λ a r. r ≡ read_answer a };
 
+    #[tactic(auto, unfolding(crate::specs::Calls::read_answer))]
     fn from(a: Result<Shape, ReadWhy>) -> Answer {
         Answer::says(answer_number(a), answer_place(a).into())
     }
@@ -154,6 +156,7 @@ impl From<Result<Shape, ReadWhy>> for Answer {
 impl From<Result<Shape, ReadWhy>> for ReadResult {
     ghost from_gives = { λ a r. r ≡ read_result a };
 
+    #[tactic(auto, unfolding(crate::specs::Calls::read_result))]
     fn from(a: Result<Shape, ReadWhy>) -> ReadResult {
         let counts = a.unwrap_or(Shape {
             jobs: Answer::ABSENT,
@@ -173,6 +176,7 @@ impl From<Result<Shape, ReadWhy>> for ReadResult {
 impl From<Result<usize, WriteWhy>> for Answer {
     ghost from_gives = { λ a r. r ≡ write_answer a };
 
+    #[tactic(auto, unfolding(crate::specs::Calls::write_answer))]
     fn from(written: Result<usize, WriteWhy>) -> Answer {
         Answer {
             length: written.unwrap_or(Answer::ABSENT),
@@ -185,6 +189,7 @@ impl From<Result<usize, WriteWhy>> for Answer {
 impl From<Result<usize, BuildWhy>> for Answer {
     ghost from_gives = { λ a r. r ≡ build_answer a };
 
+    #[tactic(auto, unfolding(crate::specs::Calls::build_answer))]
     fn from(built: Result<usize, BuildWhy>) -> Answer {
         Answer {
             length: built.unwrap_or(Answer::ABSENT),
@@ -197,6 +202,7 @@ impl From<Result<usize, BuildWhy>> for Answer {
 impl From<Result<u8, Why>> for Answer {
     ghost from_gives = { λ a r. r ≡ step_answer a };
 
+    #[tactic(auto, unfolding(crate::specs::Calls::step_answer))]
     fn from(ordered: Result<u8, Why>) -> Answer {
         Answer {
             order: ordered.map_or(Answer::ABSENT, usize::from),

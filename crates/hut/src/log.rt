@@ -1,4 +1,4 @@
-// The log's answers as records of numbers.
+//! The log's answers as records of numbers.
 ghost use Rattle.std.specs.Prelude.{◌≡◌};
 ghost use Rattle.hut.specs.Log.{absent_span, log_answer, append_answer, found_answer, log_byte};
 
@@ -30,6 +30,7 @@ impl LogAnswer {
     }
 
     // An append of so many bytes, and where it would put them.
+    #[tactic(auto, unfolding(crate::specs::Log::append_answer))]
     pub(crate) fn of_append(a: Result<usize, AppendWhy>, size: usize) -> Self
         ensures { result ≡ append_answer a size }
     {
@@ -44,6 +45,7 @@ impl LogAnswer {
 impl From<Result<Span, FindWhy>> for LogAnswer {
     ghost from_gives = { λ f r. r ≡ found_answer f };
 
+    #[tactic(auto, unfolding(crate::specs::Log::found_answer))]
     fn from(f: Result<Span, FindWhy>) -> LogAnswer {
         LogAnswer::at(
             Answer::says(answer_number(f), Place::nowhere()),
@@ -54,6 +56,7 @@ impl From<Result<Span, FindWhy>> for LogAnswer {
 
 impl LogByte {
     // One byte written; none is a place past the store, which has so many bytes.
+    #[tactic(auto, unfolding(crate::specs::Log::log_byte))]
     pub(crate) fn of(size: usize, w: Option<Write>) -> Self
         ensures { result ≡ log_byte size w }
     {
