@@ -1,11 +1,11 @@
 -- Laws of the row, kept as runs, and of table HI.
 -- Assumes nothing.
 use Prim.Native.Nat.{ℕ, zero, suc, ◌+◌, ◌-◌, ◌≤◌, ◌<◌}
-use mathlib.Core.Path.{◌≡◌, refl, sym, ap, ◌∙◌}
+use mathlib.Core.Path.{◌≡◌, refl, sym, ap, ap₂, ◌∙◌}
 use mathlib.Core.List.{List, [], ◌∷◌, ◌++◌, append_assoc, append-nil}
 use native.Mathlib.Numerals.{add-one}
 use native.Mathlib.Omega.{arith}
-use lib.ListN.{length, get_or, set, replicate, length-set}
+use lib.ListN.{length, set, replicate, length-set}
 use lib.Seq.{get_or-set_same, get_or-set_other}
 use borrow.Author.Tests.{lt-ltb, le-ltb, eq-eqb, ne_eqb}
 use Rattle.joblist.specs.Fields.{jobs, ordinary, high}
@@ -14,73 +14,74 @@ use Rattle.late.proofs.Units.{Counted}
 use Rattle.basics.specs.Units.{units_of}
 use native.Mathlib.Decide.{dec_lt}
 use Rattle.hitable.specs.TableHi.{turn, owing, place, hi_at}
-use Rattle.hitable.specs.Runs.{runs, row_of}
+use Rattle.hitable.specs.declared.Run.{Run}
+use Rattle.hitable.specs.Runs.{run_at, runs, row_of}
 
--- runs are the same where their jobs and counts are
-runs_same : (job more job' more' : List ℕ) (h k : ℕ) → ((x : ℕ) → h ≤ x → x < h + k → (get_or job' x 0 ≡ get_or job x 0) × (get_or more' x 0 ≡ get_or more x 0)) → runs job' more' h k ≡ runs job more h k
+-- runs are the same where each run is
+runs_same : (rs rs' : List Run) (h k : ℕ) → ((x : ℕ) → h ≤ x → x < h + k → run_at rs' x ≡ run_at rs x) → runs rs' h k ≡ runs rs h k
 unfolding runs
-runs_same job more job' more' h zero e = refl
-runs_same job more job' more' h (suc k) e =
-    let p = e h (omega arith) (omega arith) in
-    rw (p.0, p.1, runs_same job more job' more' (h + 1) k (λ x l r. e x (omega arith) (omega arith)))
+runs_same rs rs' h zero e = refl
+runs_same rs rs' h (suc k) e =
+    rw (e h (omega arith) (omega arith), runs_same rs rs' (h + 1) k (λ x l r. e x (omega arith) (omega arith)))
 
-runs_set : (job more : List ℕ) (h k i x y : ℕ) → ((z : ℕ) → h ≤ z → z < h + k → z ≡ i → ⊥) → runs (set job i x) (set more i y) h k ≡ runs job more h k
-runs_set job more h k i x y o =
-    runs_same job more (set job i x) (set more i y) h k (λ z l r. (get_or-set_other job i z x 0 (o z l r), get_or-set_other more i z y 0 (o z l r)))
+runs_set : (rs : List Run) (h k i : ℕ) (v : Run) → ((z : ℕ) → h ≤ z → z < h + k → z ≡ i → ⊥) → runs (set rs i v) h k ≡ runs rs h k
+runs_set rs h k i v o = runs_same rs (set rs i v) h k (λ z l r. get_or-set_other rs i z v (record { unit = 0; more = 0 }) (o z l r))
 
-runs_more : (job more : List ℕ) (h k i y : ℕ) → ((z : ℕ) → h ≤ z → z < h + k → z ≡ i → ⊥) → runs job (set more i y) h k ≡ runs job more h k
-runs_more job more h k i y o =
-    runs_same job more job (set more i y) h k (λ z l r. (refl, get_or-set_other more i z y 0 (o z l r)))
+run_set : (rs : List Run) (i : ℕ) (v : Run) → i < length rs → run_at (set rs i v) i ≡ v
+run_set rs i v l = get_or-set_same rs i v (record { unit = 0; more = 0 }) l
 
-runs_snoc : (job more : List ℕ) (h k : ℕ) → runs job more h (suc k) ≡ runs job more h k ++ (get_or job (h + k) 0 ∷ replicate (get_or more (h + k) 0) (get_or job (h + k) 0))
+runs_snoc : (rs : List Run) (h k : ℕ) → runs rs h (suc k) ≡ runs rs h k ++ ((run_at rs (h + k)).unit ∷ replicate (run_at rs (h + k)).more (run_at rs (h + k)).unit)
 unfolding runs
-runs_snoc job more h zero =
+runs_snoc rs h zero =
     let e : h + 0 ≡ h = omega arith in
-    rw e (ap (λ l. get_or job h 0 ∷ l) (append-nil (replicate (get_or more h 0) (get_or job h 0))))
-runs_snoc job more h (suc k) =
+    rw e (ap (λ l. (run_at rs h).unit ∷ l) (append-nil (replicate (run_at rs h).more (run_at rs h).unit)))
+runs_snoc rs h (suc k) =
     let e : h + suc k ≡ h + 1 + k = omega arith in
-    rw (runs_snoc job more (h + 1) k, e) (ap (λ l. get_or job h 0 ∷ l) (sym (append_assoc (replicate (get_or more h 0) (get_or job h 0)) _ _)))
+    rw (runs_snoc rs (h + 1) k, e) (ap (λ l. (run_at rs h).unit ∷ l) (sym (append_assoc (replicate (run_at rs h).more (run_at rs h).unit) _ _)))
 
-module _ (job more : List ℕ) (head tail : ℕ) where
-  pub row_back : (x : ℕ) → head ≤ tail → tail < length job → tail < length more → row_of (set job tail x) (set more tail 0) head (tail + 1) ≡ row_of job more head tail ++ (x ∷ [])
+module _ (rs : List Run) (head tail : ℕ) where
+  pub row_back : (x : ℕ) → head ≤ tail → tail < length rs → row_of (set rs tail (record { unit = x; more = 0 })) head (tail + 1) ≡ row_of rs head tail ++ (x ∷ [])
   unfolding row_of
-  row_back x h lj lm =
+  row_back x h l =
+      let v : Run = record { unit = x; more = 0 } in
       let e : tail + 1 - head ≡ suc (tail - head) = omega arith in
       let f : head + (tail - head) ≡ tail = omega arith in
-      rw (e, runs_snoc, f, get_or-set_same job tail x 0 lj, get_or-set_same more tail 0 0 lm, runs_set job more head (tail - head) tail x 0 (λ z l r p. omega arith))
+      rw (e, runs_snoc, f, run_set rs tail v l, runs_set rs head (tail - head) tail v (λ z l r p. omega arith))
 
-  pub row_front : (x k : ℕ) → 1 ≤ head → head ≤ tail → tail ≤ length job → tail ≤ length more → ¬ (k ≡ 0) → row_of (set job (head - 1) x) (set more (head - 1) (k - 1)) (head - 1) tail ≡ replicate k x ++ row_of job more head tail
+  pub row_front : (x k : ℕ) → 1 ≤ head → head ≤ tail → tail ≤ length rs → ¬ (k ≡ 0) → row_of (set rs (head - 1) (record { unit = x; more = k - 1 })) (head - 1) tail ≡ replicate k x ++ row_of rs head tail
   unfolding row_of runs
-  row_front x k p h lj lm q =
+  row_front x k p h l q =
+      let v : Run = record { unit = x; more = k - 1 } in
       let e : tail - (head - 1) ≡ suc (tail - head) = omega arith in
       let f : head - 1 + 1 ≡ head = omega arith in
       let g : k ≡ suc (k - 1) = omega arith in
-      ap (λ m. runs (set job (head - 1) x) (set more (head - 1) (k - 1)) (head - 1) m) e
-      ∙ rw (runs, get_or-set_same job (head - 1) x 0 (omega arith), get_or-set_same more (head - 1) (k - 1) 0 (omega arith), f, runs_set job more head (tail - head) (head - 1) x (k - 1) (λ z l r p. omega arith))
-      (ap (λ m. replicate m x ++ runs job more head (tail - head)) (sym g))
+      ap (λ m. runs (set rs (head - 1) v) (head - 1) m) e
+      ∙ rw (runs, run_set rs (head - 1) v (omega arith), f, runs_set rs head (tail - head) (head - 1) v (λ z l r p. omega arith))
+      (ap (λ m. replicate m x ++ runs rs head (tail - head)) (sym g))
 
-  pub row_last : head < tail → get_or more head 0 ≡ 0 → row_of job more head tail ≡ get_or job head 0 ∷ row_of job more (head + 1) tail
+  pub row_last : head < tail → (run_at rs head).more ≡ 0 → row_of rs head tail ≡ (run_at rs head).unit ∷ row_of rs (head + 1) tail
   unfolding row_of runs
   row_last h q =
       let e : tail - head ≡ suc (tail - (head + 1)) = omega arith in
-      ap (λ m. runs job more head m) e ∙ rw (runs, q)
+      ap (λ m. runs rs head m) e ∙ rw (runs, q)
 
-  pub row_less : (k : ℕ) → head < tail → tail ≤ length more → get_or more head 0 ≡ k → (k ≡ 0 → ⊥) → row_of job more head tail ≡ get_or job head 0 ∷ row_of job (set more head (k - 1)) head tail
+  pub row_less : (u k : ℕ) → head < tail → tail ≤ length rs → (run_at rs head).unit ≡ u → (run_at rs head).more ≡ k → (k ≡ 0 → ⊥)
+      → row_of rs head tail ≡ u ∷ row_of (set rs head (record { unit = u; more = k - 1 })) head tail
   unfolding row_of runs
-  row_less k h lm q nz =
+  row_less u k h l p q nz =
+      let v : Run = record { unit = u; more = k - 1 } in
       let e : tail - head ≡ suc (tail - (head + 1)) = omega arith in
       let g : k ≡ suc (k - 1) = omega arith in
-      let j = get_or job head 0 in
-      let left : runs job more head (tail - head) ≡ j ∷ (replicate (suc (k - 1)) j ++ runs job more (head + 1) (tail - (head + 1))) =
-      ap (λ m. runs job more head m) e ∙ ap (λ m. j ∷ (replicate m j ++ runs job more (head + 1) (tail - (head + 1)))) (q ∙ g) in
-      let right : runs job (set more head (k - 1)) head (tail - head) ≡ j ∷ (replicate (k - 1) j ++ runs job more (head + 1) (tail - (head + 1))) =
-      ap (λ m. runs job (set more head (k - 1)) head m) e
-      ∙ rw (runs, get_or-set_same more head (k - 1) 0 (omega arith), runs_more job more (head + 1) (tail - (head + 1)) head (k - 1) (λ z l r p. omega arith)) in
-      left ∙ sym (ap (λ l. j ∷ l) right)
+      let left : runs rs head (tail - head) ≡ u ∷ (replicate (suc (k - 1)) u ++ runs rs (head + 1) (tail - (head + 1))) =
+      ap (λ m. runs rs head m) e ∙ ap₂ (λ m w. w ∷ (replicate m w ++ runs rs (head + 1) (tail - (head + 1)))) (q ∙ g) p in
+      let right : runs (set rs head v) head (tail - head) ≡ u ∷ (replicate (k - 1) u ++ runs rs (head + 1) (tail - (head + 1))) =
+      ap (λ m. runs (set rs head v) head m) e
+      ∙ rw (runs, run_set rs head v (omega arith), runs_set rs (head + 1) (tail - (head + 1)) head v (λ z l r p. omega arith)) in
+      left ∙ sym (ap (λ l. u ∷ l) right)
 
-  pub row_empty : tail ≤ head → row_of job more head tail ≡ []
+  pub row_empty : tail ≤ head → row_of rs head tail ≡ []
   unfolding row_of runs
-  row_empty h = ap (λ m. runs job more head m) (let e : tail - head ≡ 0 = omega arith in e)
+  row_empty h = ap (λ m. runs rs head m) (let e : tail - head ≡ 0 = omega arith in e)
 
 module _ (s : List ℕ) (u k : ℕ) (row : List ℕ) where
   pub owing_more : u < jobs s → k ≡ ordinary s u → owing s u k row ≡ replicate (high s u - ordinary s u) u ++ row

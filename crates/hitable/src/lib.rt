@@ -21,12 +21,18 @@ fn is_high(list: List<'_>, x: u8) -> bool
 
 const ROOM: usize = 2 * MOST_SLOTS;
 
-// A row of owed units, its front first, as runs of a job: run i is job[i], and more[i] further units of it, for i from head to tail - 1. It begins
-// in the middle of its room; a slot adds at most one run at each end, so that nothing is ever cut off.
+// A run of owed units: one of a job, and so many further ones of it.
+#[derive(Clone, Copy)]
+struct Run {
+    unit: u8,
+    more: u16,
+}
+
+// A row of owed units, its front first, as the runs from head to tail - 1. It begins in the middle of its room; a slot adds at most one run at each
+// end, so that nothing is ever cut off.
 #[derive(Drop)]
 struct Row {
-    job: [u8; ROOM],
-    more: [u16; ROOM],
+    runs: [Run; ROOM],
     head: usize,
     tail: usize,
     ghost in_order: { head ≤ tail },
@@ -40,8 +46,7 @@ impl Row {
         ensures { (owed result ≡ []) × (result.head ≡ first_edition.slots) × (result.tail ≡ first_edition.slots) }
     {
         Row {
-            job: [0; ROOM],
-            more: [0; ROOM],
+            runs: [Run { unit: 0, more: 0 }; ROOM],
             head: MOST_SLOTS,
             tail: MOST_SLOTS,
         }
@@ -53,8 +58,7 @@ impl Row {
         ensures row { owed self.new ≡ owed self.old ++ (unit ∷ []) }
         ensures ends { (self.new.head ≡ self.old.head) × (self.new.tail ≡ self.old.tail + 1) }
     {
-        self.job[self.tail] = unit;
-        self.more[self.tail] = 0;
+        self.runs[self.tail] = Run { unit, more: 0 };
         self.tail += 1;
     }
 
@@ -66,8 +70,10 @@ impl Row {
     {
         if count > 0 {
             self.head -= 1;
-            self.job[self.head] = unit;
-            self.more[self.head] = count - 1;
+            self.runs[self.head] = Run {
+                unit,
+                more: count - 1,
+            };
         }
     }
 
@@ -79,11 +85,14 @@ impl Row {
         if self.head == self.tail {
             return None;
         }
-        let unit = self.job[self.head];
-        if self.more[self.head] == 0 {
+        let Run { unit, more } = self.runs[self.head];
+        if more == 0 {
             self.head += 1;
         } else {
-            self.more[self.head] -= 1;
+            self.runs[self.head] = Run {
+                unit,
+                more: more - 1,
+            };
         }
         Some(unit)
     }

@@ -5,4 +5,4 @@ use Rattle.hitable.proofs.Laws.{row_empty}
 use Rattle.hitable.proofs.Row.new.Goals as goal
 
 pub returns : goal.returns
-returns c = (row_empty _ _ 1024 1024 (omega arith), refl, refl)
+returns c = (row_empty _ 1024 1024 (omega arith), refl, refl)

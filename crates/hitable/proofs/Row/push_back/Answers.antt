@@ -7,4 +7,4 @@ use Rattle.hitable.proofs.Row.push_back.Goals as goal
 pub returns-clause-row : goal.returns-clause-row
 returns-clause-row c =
     let r = c.args.self.now in
-    row_back r.job r.more r.head r.tail c.args.unit r.in_order (omega arith) (omega arith)
+    row_back r.runs r.head r.tail c.args.unit r.in_order (omega arith)
