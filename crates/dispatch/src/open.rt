@@ -16,7 +16,8 @@ pub struct Opened {
     pub state: State,
 }
 
-// The numbers of n jobs, 16 bits each.
+// The numbers of n jobs, 16 bits each. By place: two bytes make a number, which no copy does, and pairs of bytes beside numbers
+// read no plainer.
 #[tactic(auto, using(crate::proofs::Entries::entries_none, crate::proofs::Entries::entries_turn, crate::proofs::Entries::entries_done), unfolding(crate::specs::Open::jobs_of))]
 fn numbers(list: &[u8], n: usize) -> [u16; JOBS]
     requires { (n ≤ first_edition.jobs) × (job_at n ≤ length list.now) }

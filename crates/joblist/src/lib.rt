@@ -109,6 +109,7 @@ impl Refusal for Why {
 }
 
 /// From here to `edge_to`, inner functions that read fields where they stand; crates above use them too.
+// The readers of a job's fields differ in an offset alone; each keeps its name, its definition and what it asks, since docs/PROMISES.md names them.
 /// The 16 bits at i.
 #[tactic(auto, unfolding(basics::specs::Bytes::u16_at))]
 pub fn u16_at(s: &[u8], i: usize) -> usize
@@ -291,7 +292,8 @@ impl Job {
     }
 }
 
-// What follows the head, in bytes that hold all of it.
+// What follows the head, in bytes that hold all of it. Its loops go by number: fields stand at places in the bytes, and there is
+// no slice of jobs or edges to go over.
 #[derive(Clone, Copy)]
 struct Body<'a> {
     bytes: &'a [u8],

@@ -47,7 +47,8 @@ pub fn one_more(n: usize, had: [u16; MOST_JOBS], j: usize) -> [u16; MOST_JOBS]
     r
 }
 
-// The jobs to which an edge comes from a job that passes: one pass over the edges.
+// The jobs to which an edge comes from a job that passes: one pass over the edges. By number, here and in `undone_of`: fields
+// stand at places in the bytes, and there is no slice of edges or jobs to go over.
 fn followers<F: Fn(usize) -> bool>(list: List<'_>, passes: F) -> [bool; MOST_JOBS]
     requires { (p : ℕ) → p < jobs list.bytes.now → F.pre passes p }
     ensures { (test : ℕ → Bool) → ((p : ℕ) (b : Bool) → p < jobs list.entry.bytes.now → F.post passes p b → b ≡ test p)
@@ -143,7 +144,8 @@ fn sooner(list: List<'_>, best: Option<usize>, j: usize) -> usize
     }
 }
 
-// The job for slot t: of the undone jobs that are ready the one with the earliest deadline.
+// The job for slot t: of the undone jobs that are ready the one with the earliest deadline. By hand: the clause of `min_by_key`
+// does not say that of several the first is taken.
 fn choose(list: List<'_>, undone: &[bool; MOST_JOBS], t: usize) -> Option<usize>
     ensures job { IfSome result (λ j. j < jobs list.entry.bytes.now) }
     ensures earliest { unwrap_or result idle ≡ earliest (ready list.entry.bytes.now (marked undone.now) t) (deadline list.entry.bytes.now) (jobs list.entry.bytes.now) }
@@ -204,7 +206,8 @@ fn is_held_by(list: List<'_>, table: &[u8], marks: &[bool; MOST_JOBS], x: usize)
     j < jobs_of(list.bytes) && marks[j]
 }
 
-// The lowest slot below the deadline of job j that is held by a successor, or the deadline.
+// The lowest slot below the deadline of job j that is held by a successor, or the deadline. Here and below the table stands beside
+// the list, and its length in a clause: of a struct that holds both, the proof cannot lend a field behind `&mut self`.
 fn limit_of(list: List<'_>, table: &[u8], j: usize) -> usize
     requires { (length table.now ≡ slots list.bytes.now) × (j < jobs list.bytes.now) }
     ensures { result ≡ lowest (holds_next list.entry.bytes.now table.now j) (deadline list.entry.bytes.now j) 0 }
@@ -215,7 +218,7 @@ fn limit_of(list: List<'_>, table: &[u8], j: usize) -> usize
     held.unwrap_or(d)
 }
 
-// The highest empty slot below b, or t.
+// The highest empty slot below b, or t. By hand: the library has no law of `rposition`, and the proof did not close.
 fn highest_empty(list: List<'_>, table: &[u8], b: usize, t: usize) -> usize
     requires { b ≤ length table.now }
     ensures { result ≡ highest (empty list.entry.bytes.now table.now) t b }

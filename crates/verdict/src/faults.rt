@@ -106,7 +106,7 @@ impl<'a> Search<'a> {
     }
 }
 
-/// The whole search.
+/// The whole search. The counts come beside the list, since its caller has read them already.
 pub(crate) fn search_tables<'a>(
     list: &'a [u8],
     lo: &'a [u8],

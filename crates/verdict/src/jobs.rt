@@ -46,6 +46,8 @@ fn need_after(own: bool, had: usize, clo: usize, chi: usize) -> usize
 }
 
 impl Jobs<'_> {
+    // Here and below by number: of an array that is longer than there are jobs, each place up to their count is filled by what the
+    // list has there.
     /// What each job needs in LO.
     pub(crate) fn needs_at_first(&self) -> [usize; MOST_JOBS]
         ensures { (i : ℕ) → i < self.now.count → units_of result i ≡ ordinary self.now.list.now i }

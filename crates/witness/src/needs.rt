@@ -74,7 +74,7 @@ impl Execution<'_> {
         }
     }
 
-    // What each job needs; zeros past them.
+    // What each job needs; zeros past them. By number: what a job needs is read by its number.
     #[tactic(auto, using(crate::proofs::Filled::needs_none, crate::proofs::Filled::needs_more))]
     pub(crate) fn needs(&self) -> [u16; MOST_JOBS]
         ensures { result ≡ needs_to first_edition.jobs self.now.list.now self.now.lo.now self.now.switch self.now.jobs }
