@@ -62,6 +62,8 @@ pub put_plan-requires : goal.put_plan-requires
 put_plan-requires c =
     let a = c.args in
     let p = c.requires in
+    let low : length a.self.low.now ≡ slots a.list.bytes.now = ap length p.idle.low ∙ length-replicate _ _ in
+    let left : length a.self.left.now ≡ slots a.list.bytes.now = ap length p.idle.left ∙ length-replicate _ _ in
     let lo : length a.self.lo.now ≡ slots a.list.bytes.now = ap length p.idle.lo ∙ length-replicate _ _ in
     let hi : length a.self.hi.now ≡ slots a.list.bytes.now = ap length p.idle.hi ∙ length-replicate _ _ in
     let list = list_length first_edition a.list.bytes.now p.accepted in
