@@ -10,6 +10,8 @@ use joblist::{HEAD_BYTES, JOB_BYTES, MOST_SLOTS};
 use parts::plan::{Counts, ENDS, ENTRIES, JOBS, NUMBERS, Plan};
 use planfile::{ReadWhy, Shape};
 
+/// What opening answers. A state holds arrays, so it stands beside the answer, all zero where that is a refusal: `open_of` fixes
+/// both.
 #[derive(Clone, Copy)]
 pub struct Opened {
     pub answer: Result<Shape, ReadWhy>,

@@ -10,6 +10,7 @@ use machine::step::step;
 use parts::lent::Marks;
 use parts::plan::Plan;
 
+/// What C keeps for a plan that runs: arrays of fixed size, by job, and no padding.
 #[repr(C)]
 #[derive(Clone, Copy)]
 pub struct State {

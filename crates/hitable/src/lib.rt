@@ -29,7 +29,7 @@ struct Run {
 }
 
 // A row of owed units, its front first, as the runs from head to tail - 1. It begins in the middle of its room; a slot adds at most one run at each
-// end, so that nothing is ever cut off.
+// end, so that nothing is ever cut off. An array: there is no heap here.
 #[derive(Drop)]
 struct Row {
     runs: [Run; ROOM],
@@ -130,7 +130,7 @@ fn further_of(list: List<'_>, placed: &[u16; MOST_JOBS], u: u8) -> u16
     0
 }
 
-/// Table HI into out, from table LO and THI as first made.
+/// Table HI into out, from table LO and THI as first made. By the slot's number: three tables are read and written at one slot.
 pub fn table_hi(list: List<'_>, lo: &[u8], thi: &[u8], out: &mut [u8])
     requires { (length lo.now ≡ slots list.bytes.now) × (length thi.now ≡ slots list.bytes.now) × (length out.old ≡ slots list.bytes.now) }
     ensures { out.new ≡ (hi_at list.entry.bytes.now lo.now thi.now out.old (slots list.entry.bytes.now)).table }

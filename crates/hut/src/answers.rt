@@ -172,7 +172,8 @@ impl From<Result<Shape, ReadWhy>> for ReadResult {
     }
 }
 
-// Writing, with the plan's length where it was written.
+// Writing, with the plan's length where it was written. `write_answer` and `build_answer` are definitions of their own, so that
+// this and the next stand side by side.
 impl From<Result<usize, WriteWhy>> for Answer {
     ghost from_gives = { λ a r. r ≡ write_answer a };
 

@@ -13,7 +13,7 @@ ghost use Rattle.joblist.specs.declared.Place.TheVariants.{Nowhere};
 
 use refusal::Refusal;
 
-/// The limits of the first edition.
+/// The most jobs. The limits of the first edition stand here, and nowhere else.
 pub const MOST_JOBS: usize = 64;
 
 pub const MOST_EDGES: usize = 256;
@@ -31,7 +31,7 @@ impl Table {
     pub const IDLE: u8 = 255;
 }
 
-/// The bytes of the head, of a job, and of an edge.
+/// The bytes of the head; those of a job and of an edge follow.
 pub const HEAD_BYTES: usize = 8;
 
 pub const JOB_BYTES: usize = 10;
@@ -55,7 +55,8 @@ pub enum Why {
     Cycle,
 }
 
-/// Where a list is refused.
+/// Where a list is refused. `Nowhere` is a case of its own, as `place_of` has it, and so is `nowhere` of each refusal: the
+/// definitions of places speak of it.
 #[derive(Clone, Copy, Debug, PartialEq, Eq)]
 pub enum Place {
     Nowhere,
@@ -108,8 +109,10 @@ impl Refusal for Why {
     }
 }
 
-/// From here to `edge_to`, inner functions that read fields where they stand; crates above use them too.
-// The readers of a job's fields differ in an offset alone; each keeps its name, its definition and what it asks, since docs/PROMISES.md names them.
+// From here to `edge_to`, inner functions that read fields where they stand; crates above use them too. Those of the head, of a
+// job and of an edge differ in an offset alone; each keeps its name, its definition and what it asks, since docs/PROMISES.md
+// names them.
+
 /// The 16 bits at i.
 #[tactic(auto, unfolding(basics::specs::Bytes::u16_at))]
 pub fn u16_at(s: &[u8], i: usize) -> usize
@@ -119,7 +122,7 @@ pub fn u16_at(s: &[u8], i: usize) -> usize
     usize::from(u16::from_le_bytes([s[i], s[i + 1]]))
 }
 
-/// The head.
+/// The job count.
 pub fn jobs_of(s: &[u8]) -> usize
     requires { head_bytes ≤ length s.now }
     ensures { (result ≡ jobs s.now) × (result < 65536) }
@@ -127,6 +130,7 @@ pub fn jobs_of(s: &[u8]) -> usize
     u16_at(s, 0)
 }
 
+/// The edge count.
 pub fn edges_of(s: &[u8]) -> usize
     requires { head_bytes ≤ length s.now }
     ensures { (result ≡ edges s.now) × (result < 65536) }
@@ -134,6 +138,7 @@ pub fn edges_of(s: &[u8]) -> usize
     u16_at(s, 2)
 }
 
+/// The frame length L.
 pub fn slots_of(s: &[u8]) -> usize
     requires { head_bytes ≤ length s.now }
     ensures { (result ≡ slots s.now) × (result < 65536) }
@@ -141,7 +146,7 @@ pub fn slots_of(s: &[u8]) -> usize
     u16_at(s, 4)
 }
 
-/// Job j.
+/// Job j's arrival.
 pub fn arrival_of(s: &[u8], j: usize) -> usize
     requires { job_at j + job_bytes ≤ length s.now }
     ensures { (result ≡ arrival s.now j) × (result < 65536) }
@@ -149,6 +154,7 @@ pub fn arrival_of(s: &[u8], j: usize) -> usize
     u16_at(s, HEAD_BYTES + JOB_BYTES * j)
 }
 
+/// Job j's deadline.
 pub fn deadline_of(s: &[u8], j: usize) -> usize
     requires { job_at j + job_bytes ≤ length s.now }
     ensures { (result ≡ deadline s.now j) × (result < 65536) }
@@ -156,6 +162,7 @@ pub fn deadline_of(s: &[u8], j: usize) -> usize
     u16_at(s, HEAD_BYTES + JOB_BYTES * j + 2)
 }
 
+/// Job j's ordinary budget.
 pub fn ordinary_of(s: &[u8], j: usize) -> usize
     requires { job_at j + job_bytes ≤ length s.now }
     ensures { (result ≡ ordinary s.now j) × (result < 65536) }
@@ -163,6 +170,7 @@ pub fn ordinary_of(s: &[u8], j: usize) -> usize
     u16_at(s, HEAD_BYTES + JOB_BYTES * j + 4)
 }
 
+/// Job j's high budget.
 pub fn high_of(s: &[u8], j: usize) -> usize
     requires { job_at j + job_bytes ≤ length s.now }
     ensures { (result ≡ high s.now j) × (result < 65536) }
@@ -170,6 +178,7 @@ pub fn high_of(s: &[u8], j: usize) -> usize
     u16_at(s, HEAD_BYTES + JOB_BYTES * j + 6)
 }
 
+/// Job j's level.
 pub fn level_of(s: &[u8], j: usize) -> usize
     requires { job_at j + job_bytes ≤ length s.now }
     ensures { (result ≡ level s.now j) × (result < 256) }
@@ -177,7 +186,7 @@ pub fn level_of(s: &[u8], j: usize) -> usize
     usize::from(s[HEAD_BYTES + JOB_BYTES * j + 8])
 }
 
-/// Edge e, after n jobs.
+/// The job that edge e comes from, after n jobs.
 pub fn edge_from(s: &[u8], n: usize, e: usize) -> usize
     requires { edge_at n e + edge_bytes ≤ length s.now }
     ensures { (result ≡ edge_from s.now n e) × (result < 256) }
@@ -185,6 +194,7 @@ pub fn edge_from(s: &[u8], n: usize, e: usize) -> usize
     usize::from(s[HEAD_BYTES + JOB_BYTES * n + EDGE_BYTES * e])
 }
 
+/// The job that it goes to.
 pub fn edge_to(s: &[u8], n: usize, e: usize) -> usize
     requires { edge_at n e + edge_bytes ≤ length s.now }
     ensures { (result ≡ edge_to s.now n e) × (result < 256) }
@@ -337,6 +347,7 @@ impl Body<'_> {
         self.job(j).check(j)
     }
 
+    // `check_edges` below has the same shape: a function for both would take the check as a closure and read no plainer.
     #[tactic(auto, using(basics::proofs::Chain::turn_good, basics::proofs::Chain::turn_no, basics::proofs::Chain::turn_end))]
     fn check_jobs(&self) -> Result<(), Why>
         ensures { result ≡ each self.now.jobs (job_answer first_edition (high self.now.bytes.now) self.now.bytes.now) }

@@ -96,7 +96,8 @@ pub fn undone_of<F: Fn(usize) -> usize>(
     r
 }
 
-// The units that job j takes in the late table of level v.
+// The units that job j takes in the late table of level v. A level is a number here and below: `late_table` takes any, as its
+// definition does.
 #[tactic(auto, unfolding(crate::specs::Late::takes))]
 fn takes_of(list: List<'_>, v: usize, j: usize) -> usize
     requires { j < jobs list.bytes.now }

@@ -26,6 +26,11 @@ module _ (lim : Limits) (s : List ℕ) where
   unfolding newest_of
   newest_walk h = rw (le-leb _ _ h) (newest_last (walk lim s))
 
+-- the end of the last plan, or of none
+pub last_end_lem : (lim : Limits) (s : List ℕ) (p : Span) → p ≡ last_in no_span (walk lim s) → end_of p ≡ last_end lim s
+unfolding last_end
+last_end_lem lim s p e = ap end_of e
+
 -- where the last plan that the code finds ends
 pub end_some : (lim : Limits) (s : List ℕ) (p : Span) → last_plan (walk lim s) ≡ Some p → end_of p ≡ last_end lim s
 unfolding last_end last_in

@@ -66,7 +66,7 @@ fn size_at(store: &[u8], at: usize) -> Option<usize>
     planfile::read(rest.get(..size)?).is_ok().then_some(size)
 }
 
-/// Inner: the last whole plan, by the walk from the front.
+/// Inner: the last whole plan, by the walk from the front. The place moves by each plan's size, so no index is counted.
 #[tactic(auto, using(crate::proofs::Steps::step_fits, crate::proofs::Steps::step_least, crate::proofs::Steps::step_first))]
 pub fn last_of(store: &[u8]) -> Option<Span>
     ensures last { result ≡ last_plan (walk first_edition store.now) }

@@ -19,7 +19,7 @@ pub enum Why {
     PastHigh(u8),
 }
 
-/// An order, which is a job's number or idle; or why not.
+/// An order, which is a job's number or the idle mark, as C and `step_of` have it; or why not.
 pub type Answer = Result<u8, Why>;
 
 impl Refusal for Why {

@@ -154,6 +154,7 @@ pub fn build(list: &[u8], out: &mut [u8]) -> Result<usize, BuildWhy>
     if out.len() < list.len() + 2 * l + TRAILER_BYTES {
         return Err(BuildWhy::Room);
     }
+    // there is no heap here: five arrays, of which the first L bytes are lent
     let mut low = [Table::IDLE; MOST_SLOTS];
     let mut high = [Table::IDLE; MOST_SLOTS];
     let mut left = [Table::IDLE; MOST_SLOTS];

@@ -19,7 +19,7 @@ pub const CHI: usize = 3;
 
 pub const LEVEL: usize = 4;
 
-/// Room for the most jobs' numbers, the most edges' ends, and both tables.
+/// Room for the most jobs' numbers; for the most edges' ends and for both tables below.
 pub const JOBS: usize = NUMBERS * MOST_JOBS;
 
 pub const ENDS: usize = 2 * MOST_EDGES;
@@ -35,7 +35,8 @@ pub struct Counts {
     pub m: u16,
 }
 
-/// The numbers job by job; the edges as pairs, p and s; table LO, and table HI from MOST_SLOTS on.
+/// The numbers job by job; the edges as pairs, p and s; table LO, and table HI from MOST_SLOTS on. Each is one flat array:
+/// `number_in`, `edges_ok` and `tables_ok` speak of flat lists.
 #[repr(C)]
 #[derive(Clone, Copy)]
 pub struct Plan {

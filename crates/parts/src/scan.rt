@@ -161,7 +161,7 @@ fn may_run<'a, 'b>(
         && preds_done(edges, done, x)
 }
 
-/// The named job if it may run, else idle.
+/// The named job if it may run, else idle. The marks come one by one, as in `may_run`.
 #[tactic(auto, unfolding(crate::specs::Scan::choice_in, basics::specs::Choice::pick))]
 pub fn choice<'a, 'b>(
     jobs: &'a [u16; JOBS],

@@ -165,7 +165,7 @@ pub fn put_plan(list: &[u8], lo: &[u8], hi: &[u8], out: &mut [u8]) -> usize
 }
 
 /// Writes the plan at the front of `out`, where the check says yes and there is room; no byte changes otherwise.
-// The list and its tables stand side by side, as in the check's call and in C's.
+/// The list and its tables stand side by side, as in the check's call and in C's.
 #[tactic(auto, using(crate::proofs::Accepted::pair_fits, crate::proofs::Written::plan_length), unfolding(crate::specs::Answer::write_of, crate::specs::Answer::out_after))]
 pub fn write(list: &[u8], lo: &[u8], hi: &[u8], out: &mut [u8]) -> Result<usize, WriteWhy>
     ensures { (result ≡ write_of first_edition list.now lo.now hi.now (length out.old))
@@ -252,7 +252,8 @@ impl<'a> Counted<'a> {
     }
 }
 
-/// The list of a plan, as much of it as lies in the bytes; nothing of fewer than 16 bytes.
+/// The list of a plan, as much of it as lies in the bytes; nothing of fewer than 16 bytes. The three parts are calls of their own
+/// names, each with a definition of its own.
 #[tactic(auto, using(crate::proofs::Parts::part_none, crate::proofs::Parts::part_some))]
 pub fn list_of(plan: &[u8]) -> &[u8]
     ensures { result.now ≡ list_of plan.now }

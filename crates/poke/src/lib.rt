@@ -11,7 +11,7 @@ use joblist::{MOST_EDGES, MOST_JOBS, MOST_SLOTS};
 use parts::plan;
 use parts::plan::{ENDS, ENTRIES, JOBS};
 
-// Number k of job i, if there is such a job. This and the next two know where C keeps a plan's parts.
+// Number k of job i, if there is such a job. This and the next two know where `parts` keeps them.
 fn set_number(jobs: &mut [u16; JOBS], i: usize, k: usize, word: u16)
     requires { k < 5 }
 {

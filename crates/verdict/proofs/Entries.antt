@@ -38,10 +38,10 @@ entries_counted table job (suc t) h = go (eqb (entry_at table t) job) refl (entr
     go true e ih = entries_here (entry_at table) job t (eqb-true _ _ e) ∙ ap suc ih ∙ sym (add-one _) ∙ sym (count_by_more_yes (λ x. eqb x job) table t idle (omega arith) e) ∙ ap (λ (k : ℕ). count_by (λ x. eqb x job) (take k table)) (add-one t)
     go false e ih = entries_else (entry_at table) job t (eqb-false _ _ e) ∙ ih ∙ sym (count_by_more_no (λ x. eqb x job) table t idle (omega arith) e) ∙ ap (λ (k : ℕ). count_by (λ x. eqb x job) (take k table)) (add-one t)
 
--- no more than the slots before
-pub entries_in_most : (table : List ℕ) (job t : ℕ) → entries_in table job t ≤ t
+-- no more than the slots before, nor than the table has
+pub entries_in_most : (table : List ℕ) (job t : ℕ) → entries_in table job t ≤ min t (length table)
 unfolding entries_in
-entries_in_most table job t = omega (arith, entries_most table job (min t (length table)))
+entries_in_most table job t = entries_most table job (min t (length table))
 
 -- a job above every byte has no entry
 module _ (table : List ℕ) (bytes : (i : ℕ) → get_or table i 0 < 256) (job : ℕ) (over : 255 < job) where

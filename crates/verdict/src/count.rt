@@ -35,7 +35,8 @@ fn entries_of(entry: u8, few: &[u8]) -> usize
     usize::from(count)
 }
 
-/// How many of the entries are this one: block after block, and what is left.
+/// How many of the entries are this one: block after block, and what is left. A `while`, so that few entries are one block and
+/// cost one test.
 fn entries_by_block(entry: u8, table: &[u8]) -> usize
     ensures { result ≡ count_by (λ x. x == entry) table.now }
 {
@@ -59,7 +60,8 @@ pub fn entries_before(table: &[u8], job: usize, slot: usize) -> usize
     entries_by_block(entry, &table[..slot.min(table.len())])
 }
 
-/// The running form of the same count: of each job its entries in a table before a slot.
+/// The running form of the same count: of each job its entries in a table before a slot. No heap here nor below `hut`: an array
+/// has room for the most jobs.
 #[derive(Drop)]
 pub(crate) struct Counts<'a> {
     pub(crate) table: &'a [u8],

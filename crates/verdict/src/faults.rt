@@ -37,7 +37,7 @@ impl<'a> Search<'a> {
         if mode == 0 { self.lo } else { self.hi }
     }
 
-    /// The slots from `from` on in one mode, after a switch: a loop yielding the fault by break.
+    /// The slots from `from` on in one mode, after a switch: a loop yielding the fault by break, the form that the document names.
     fn scan_from(
         &self,
         units: [usize; MOST_JOBS],

@@ -13,6 +13,7 @@ use crate::count::Counts;
 use joblist::{MOST_JOBS, edge_from, edge_to, high_of, level_of, ordinary_of};
 
 /// The jobs of a list, where they stand in its bytes, and its edges as a square of bits: in the row of q, whether p comes before it.
+/// The square is one flat array, as `edge_at` reads it.
 #[derive(Clone, Copy)]
 pub(crate) struct Jobs<'a> {
     pub(crate) list: &'a [u8],
@@ -22,7 +23,7 @@ pub(crate) struct Jobs<'a> {
     pub(crate) ghost whole: { job_at count ≤ length list.now },
 }
 
-/// The edges as a square of bits.
+/// The edges as a square of bits, filled edge by edge: their ends stand at places in the bytes.
 pub(crate) fn square_of(list: &[u8], n: usize, m: usize) -> [bool; PAIRS]
     requires few { n ≤ first_edition.jobs }
     requires whole { list_bytes n m ≤ length list.now }

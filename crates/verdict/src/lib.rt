@@ -34,7 +34,8 @@ pub enum Fault {
 }
 
 impl Fault {
-    /// The switch slot of a fault before which no switch was made.
+    /// The switch slot of a fault before which no switch was made: an associated constant, a form that the document names, and
+    /// `chain_of` reads it.
     pub const NO_SWITCH: usize = 65535;
 }
 

@@ -12,6 +12,7 @@ use crate::jobs::Jobs;
 use joblist::{MOST_JOBS, arrival_of, deadline_of, level_of};
 
 /// A slot at its opening: the units that each job has had and those that it needs, the mode, that of the slot before, and the switch slot.
+/// Modes are numbers, and units stand in two arrays, as in the definitions of an execution, which hold for any number of levels.
 #[derive(Clone, Copy)]
 pub(crate) struct Opening<'a> {
     pub(crate) jobs: Jobs<'a>,

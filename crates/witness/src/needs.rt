@@ -9,7 +9,8 @@ use joblist::{MOST_JOBS, high_of, ordinary_of};
 use verdict::count::{entries_before, entry_at};
 use verdict::{Fault, Verdict};
 
-/// The check's answer, and what each job needs in an execution that is bad as it says; zeros where it names no fault.
+/// The check's answer, and what each job needs in an execution that is bad as it says; zeros where it names no fault, as
+/// `witness_of` says.
 #[derive(Clone, Copy)]
 pub struct Witness {
     pub verdict: Verdict,
