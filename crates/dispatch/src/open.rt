@@ -82,15 +82,25 @@ fn fields(list: &[u8], lo: &[u8], hi: &[u8]) -> Plan
 pub fn open(plan: &[u8], first: u16) -> Opened
     ensures { result ≡ open_of first_edition plan.now first }
 {
-    let answer = planfile::read(plan);
-    let state = match answer {
-        Ok(_) => {
+    // each arm makes the whole answer: a state that is named before it would take its stack twice
+    match planfile::read(plan) {
+        Ok(shape) => {
             let list = planfile::list_of(plan);
             let low = planfile::low_of(plan);
             let high = planfile::high_of(plan);
-            State::fresh(fields(list, low, high), first)
+            let fields = fields(list, low, high);
+            let state = State::fresh(fields, first);
+            Opened {
+                answer: Ok(shape),
+                state,
+            }
         }
-        Err(_) => State::zero(),
-    };
-    Opened { answer, state }
+        Err(why) => {
+            let state = State::zero();
+            Opened {
+                answer: Err(why),
+                state,
+            }
+        }
+    }
 }

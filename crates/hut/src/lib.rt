@@ -128,9 +128,11 @@ pub extern "C" fn hut_open(plan: &[u8], first: u16) -> Running
     ensures { result ≡ opened (open_of first_edition plan.now first) }
 {
     let o = dispatch::open::open(plan, first);
+    let answer = o.answer;
+    let state = o.state;
     Running {
-        answer: o.answer.into(),
-        state: o.state,
+        answer: answer.into(),
+        state,
         rest: 0,
     }
 }

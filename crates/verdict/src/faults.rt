@@ -10,10 +10,10 @@ ghost use Rattle.frame.specs.TwoLevels.{each_switch, search_two};
 ghost use Rattle.verdict.specs.FrameOf.{frame_with};
 ghost use Rattle.verdict.specs.Inner.{told, chain_of, Steady, Rising};
 
-use crate::Fault;
 use crate::count::{Counts, entry_at};
-use crate::jobs::{Jobs, square_of};
+use crate::jobs::{Jobs, fill_square};
 use crate::slot::Opening;
+use crate::{Fault, PAIRS};
 use joblist::MOST_JOBS;
 
 /// What is searched: two tables, in so many slots.
@@ -123,7 +123,8 @@ pub(crate) fn search_tables<'a>(
     requires rising { Rising list.now n }
     ensures { result ≡ told (search_two (frame_with list.now n l lo.now hi.now (edge_in list.now n m))) }
 {
-    let before = square_of(list, n, m);
+    let mut before = [false; PAIRS];
+    fill_square(list, n, m, &mut before);
     let jobs = Jobs {
         list,
         count: n,

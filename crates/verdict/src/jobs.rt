@@ -23,20 +23,20 @@ pub(crate) struct Jobs<'a> {
     pub(crate) ghost whole: { job_at count ≤ length list.now },
 }
 
-/// The edges as a square of bits, filled edge by edge: their ends stand at places in the bytes.
-pub(crate) fn square_of(list: &[u8], n: usize, m: usize) -> [bool; PAIRS]
+/// Fills the edges as a square of bits, edge by edge: their ends stand at places in the bytes. The square is lent, since handing it
+/// back would take its 4,096 bytes of stack twice.
+pub(crate) fn fill_square(list: &[u8], n: usize, m: usize, square: &mut [bool; PAIRS])
     requires few { n ≤ first_edition.jobs }
     requires whole { list_bytes n m ≤ length list.now }
     requires named { Named list.now n m }
-    ensures { (p q : ℕ) → p < n → q < n → edge_at result p q ≡ edge_in list.now n m p q }
+    ensures { (p q : ℕ) → p < n → q < n → edge_at square.new p q ≡ edge_in list.now n m p q }
 {
-    let mut square = [false; PAIRS];
+    *square = [false; PAIRS];
     for e in 0..m {
         let p = edge_from(list, n, e);
         let q = edge_to(list, n, e);
         square[MOST_JOBS * q + p] = true;
     }
-    square
 }
 
 /// What a job needs after a switch, which is its own or another's.

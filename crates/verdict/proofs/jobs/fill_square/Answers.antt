@@ -4,7 +4,7 @@ use Rattle.std.proofs.Common.{Bool, false, ◌∙◌, refl, sym, arith}
 use lib.ListN.{get_or-replicate, length-set}
 use Rattle.verdict.proofs.Square.{edge_more, edge_zero}
 use Rattle.verdict.specs.Inner.{pair_at, pairs}
-use Rattle.verdict.proofs.jobs.square_of.Goals as goal
+use Rattle.verdict.proofs.jobs.fill_square.Goals as goal
 
 pub loop-e-init : goal.loop-e-init
 loop-e-init c =
