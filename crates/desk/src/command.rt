@@ -14,6 +14,13 @@ pub(crate) enum Look {
     Picture,
 }
 
+// What is shown, and how.
+#[derive(Clone, Copy)]
+pub(crate) struct Sight<'a> {
+    pub given: Given<'a>,
+    pub look: Look,
+}
+
 // A text of ticks, or how many are made here.
 #[derive(Clone, Copy)]
 pub(crate) enum Ticks<'a> {
@@ -29,8 +36,8 @@ pub(crate) enum Command<'a> {
     Build(&'a [u8], &'a [u8]),
     Write(&'a [u8], &'a [u8], &'a [u8]),
     Check(Given<'a>),
-    Show(Given<'a>, Look),
-    Why(Given<'a>, Look),
+    Show(Sight<'a>),
+    Why(Sight<'a>),
     Run(&'a [u8], Ticks<'a>, Option<&'a [u8]>),
     List(&'a [u8]),
     Tables(Given<'a>),
@@ -53,31 +60,30 @@ impl<'a> Given<'a> {
     }
 }
 
-// The mark of a picture stands before the files, between them or behind them.
-fn looked<'a>(a: &'a [u8], b: &'a [u8], c: &'a [u8]) -> (Given<'a>, Look) {
-    let mark = b"--svg".as_slice();
-    if a == mark {
-        (Given::new(b, c), Look::Picture)
-    } else if b == mark {
-        (Given::new(a, c), Look::Picture)
-    } else if c == mark {
-        (Given::new(a, b), Look::Picture)
-    } else {
-        (Given::new(a, b), Look::Text)
+impl<'a> Sight<'a> {
+    fn new(path: &'a [u8], from: &'a [u8], look: Look) -> Self {
+        Sight {
+            given: Given::new(path, from),
+            look,
+        }
+    }
+
+    // The mark of a picture stands before the files, between them or behind them.
+    fn of(a: &'a [u8], b: &'a [u8], c: &'a [u8]) -> Self {
+        let mark = b"--svg".as_slice();
+        if a == mark {
+            Sight::new(b, c, Look::Picture)
+        } else if b == mark {
+            Sight::new(a, c, Look::Picture)
+        } else if c == mark {
+            Sight::new(a, b, Look::Picture)
+        } else {
+            Sight::new(a, b, Look::Text)
+        }
     }
 }
 
 impl<'a> Command<'a> {
-    fn show(a: &'a [u8], b: &'a [u8], c: &'a [u8]) -> Self {
-        let (given, look) = looked(a, b, c);
-        Command::Show(given, look)
-    }
-
-    fn why(a: &'a [u8], b: &'a [u8], c: &'a [u8]) -> Self {
-        let (given, look) = looked(a, b, c);
-        Command::Why(given, look)
-    }
-
     // Ticks are made here after a mark, and else they stand in a file.
     fn run(plan: &'a [u8], a: &'a [u8], b: &'a [u8], c: &'a [u8]) -> Self {
         if a == b"--demo".as_slice() {
@@ -94,8 +100,8 @@ impl<'a> Command<'a> {
             [b"words", ..] => Command::Words,
             [_, b"", ..] => Command::Help,
             [b"check", path, from, ..] => Command::Check(Given::new(path, from)),
-            [b"show", a, b, c, _] => Command::show(a, b, c),
-            [b"why", a, b, c, _] => Command::why(a, b, c),
+            [b"show", a, b, c, _] => Command::Show(Sight::of(a, b, c)),
+            [b"why", a, b, c, _] => Command::Why(Sight::of(a, b, c)),
             [b"tables", path, from, ..] => Command::Tables(Given::new(path, from)),
             [b"list", plan, ..] => Command::List(plan),
             [_, _, b"", ..] => Command::Help,

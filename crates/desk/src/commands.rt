@@ -1,5 +1,5 @@
 //! The commands, each with the files that it reads and writes. One that stops halfway said why.
-use crate::command::{Given, Look, Ticks};
+use crate::command::{Given, Look, Sight, Ticks};
 use drawing::plan::{Plan, Table};
 use files::{complain, fail, send};
 use jobtext::{Jobs, Names};
@@ -90,9 +90,10 @@ fn draw(rt: &HostRuntime, plan: Plan, look: Look) {
 }
 
 // desk show: PLAN [JOBS] [--svg], or JOBS TABLES [--svg]
-pub(crate) fn show(rt: &HostRuntime, files: Given, look: Look) -> Option<()> {
+pub(crate) fn show(rt: &HostRuntime, sight: Sight) -> Option<()> {
+    let files = sight.given;
     let pair = given(rt, files.path, files.from, Page::errors(rt))?;
-    draw(rt, pair.plan(), look);
+    draw(rt, pair.plan(), sight.look);
     note(rt, &pair);
     Some(())
 }
@@ -122,13 +123,14 @@ fn tell_night(rt: &HostRuntime, plan: Plan, look: Look) {
 }
 
 // desk why: PLAN [JOBS] [--svg], or JOBS TABLES [--svg]
-pub(crate) fn why(rt: &HostRuntime, files: Given, look: Look) -> Option<()> {
+pub(crate) fn why(rt: &HostRuntime, sight: Sight) -> Option<()> {
+    let files = sight.given;
     let pair = given(rt, files.path, files.from, Page::errors(rt))?;
     let plan = pair.plan();
     if plans::is_accepted(plan.bytes) {
-        say_good(rt, pair.path, look);
+        say_good(rt, pair.path, sight.look);
     } else {
-        tell_night(rt, plan, look);
+        tell_night(rt, plan, sight.look);
     }
     note(rt, &pair);
     Some(())

@@ -28,8 +28,8 @@ fn run(rt: &HostRuntime, command: Command) -> Option<()> {
         Command::Build(jobs, to) => commands::build(rt, jobs, to)?,
         Command::Write(jobs, tables, to) => commands::write(rt, jobs, tables, to)?,
         Command::Check(files) => commands::check(rt, files)?,
-        Command::Show(files, look) => commands::show(rt, files, look)?,
-        Command::Why(files, look) => commands::why(rt, files, look)?,
+        Command::Show(sight) => commands::show(rt, sight)?,
+        Command::Why(sight) => commands::why(rt, sight)?,
         Command::Run(plan, ticks, jobs) => commands::run(rt, plan, ticks, jobs)?,
         Command::List(plan) => commands::list(rt, plan)?,
         Command::Tables(files) => commands::tables(rt, files)?,
@@ -44,6 +44,7 @@ fn run(rt: &HostRuntime, command: Command) -> Option<()> {
     Some(())
 }
 
+// The words are bytes in lent rooms, and no `String`s: a path may have any bytes.
 fn main(rt: HostRuntime) {
     let mut a = [0u8; WORD];
     let mut b = [0u8; WORD];

@@ -51,7 +51,7 @@ fn put_slot(page: Page, grid: Grid, slot: Slot, t: usize) -> Page {
     }
 }
 
-// The slots up to the fault.
+// The slots up to the fault. A `for`: a `fold` over the page and the night is no plainer.
 fn put_slots(page: Page, grid: Grid, opened: Night, end: usize) -> Page {
     let mut to = page;
     let mut night = opened;

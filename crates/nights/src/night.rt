@@ -16,7 +16,8 @@ impl Work {
     }
 }
 
-/// What stands at the opening of a slot: the work of each job of the plan, and the table in force.
+/// What stands at the opening of a slot: the work of each job of the plan, and the table in force. The work is an array and no
+/// `Vec`: there are never more jobs, and so no memory can run out in the middle of a night.
 #[derive(Clone, Copy)]
 pub struct Night<'a> {
     pub plan: Plan<'a>,

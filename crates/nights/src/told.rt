@@ -125,7 +125,7 @@ impl<'a> Columns<'a> {
         }
     }
 
-    // The slots up to the fault, and what is wrong at its opening.
+    // The slots up to the fault, and what is wrong at its opening. A `for`: a `fold` over the page and the night is no plainer.
     fn put_slots(self, page: Page, opened: Night, f: Fault) -> Page {
         let mut to = page;
         let mut night = opened;

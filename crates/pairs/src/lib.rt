@@ -7,6 +7,7 @@ use drawing::plan::Plan;
 use files::{complain, fail, send};
 use jobtext::{Jobs, Names};
 use page::Page;
+use tabletext::Tables;
 
 /// Where the tables of a pair are from: a plan file, whose names may be those of another list; or they were drawn by hand.
 #[derive(Clone, Copy, PartialEq, Eq)]
@@ -87,32 +88,43 @@ pub fn planned<'a>(rt: &HostRuntime, path: &'a [u8], from: Option<&[u8]>) -> Opt
     named(rt, path, bytes, from)
 }
 
-// A list and the file of its tables. Where the list is refused the page says so, and the tables are not looked at.
-fn with_tables<'a>(rt: &HostRuntime, jobs: Jobs, path: &'a [u8], page: Page) -> Option<Pair<'a>> {
-    let Jobs { list, names } = jobs;
-    if let Err(no) = plans::check_list(&list) {
-        send(words::tell(page, &list, &names, no));
-        return None;
-    }
-    let text = files::read(rt, path)?;
-    match tabletext::read(rt.alloc(), &text, &list, &names) {
-        Ok(tables) => match plans::join(rt.alloc(), &list, &tables.low, &tables.high) {
-            Ok(bytes) => Some(Pair {
-                path,
-                source: Source::Drawn,
-                bytes,
-                names,
-            }),
-            Err(e) => {
-                fail(Page::errors(rt), path, e.into());
-                None
-            }
-        },
+// Reads a text of tables that stands in a file.
+fn tables_in(rt: &HostRuntime, path: &[u8], text: &[u8], jobs: &Jobs) -> Option<Tables> {
+    match tabletext::read(rt.alloc(), text, &jobs.list, &jobs.names) {
+        Ok(tables) => Some(tables),
         Err(mistake) => {
             complain(tabletext::put_mistake(Page::errors(rt), path, &mistake));
             None
         }
     }
+}
+
+// The bytes of a plan with the tables of a file.
+fn joined(rt: &HostRuntime, path: &[u8], list: &[u8], tables: &Tables) -> Option<Vec<u8>> {
+    match plans::join(rt.alloc(), list, &tables.low, &tables.high) {
+        Ok(bytes) => Some(bytes),
+        Err(e) => {
+            fail(Page::errors(rt), path, e.into());
+            None
+        }
+    }
+}
+
+// A list and the file of its tables. Where the list is refused the page says so, and the tables are not looked at.
+fn with_tables<'a>(rt: &HostRuntime, jobs: Jobs, path: &'a [u8], page: Page) -> Option<Pair<'a>> {
+    if let Err(no) = plans::check_list(&jobs.list) {
+        send(words::tell(page, &jobs.list, &jobs.names, no));
+        return None;
+    }
+    let text = files::read(rt, path)?;
+    let tables = tables_in(rt, path, &text, &jobs)?;
+    let bytes = joined(rt, path, &jobs.list, &tables)?;
+    Some(Pair {
+        path,
+        source: Source::Drawn,
+        bytes,
+        names: jobs.names,
+    })
 }
 
 /// A file of jobs and the file of its tables.

@@ -5,13 +5,13 @@
 use drawing::plan::Plan;
 use drawing::put_counts;
 use joblist::{EDGE_BYTES, HEAD_BYTES, JOB_BYTES, MOST_EDGES, MOST_JOBS, MOST_SLOTS};
-use merge::BuildWhy;
 use page::Page;
-use planfile::{ReadWhy, Shape, TRAILER_BYTES, WriteWhy};
+use planfile::{ReadWhy, Shape, TRAILER_BYTES};
+use refusal::Refusal;
 use std::alloc::{AllocError, Global};
 use text::part;
 use verdict::Objection;
-use words::No;
+use words::{At, No};
 
 /// No plan has more bytes: the largest list, two tables and the trailer.
 pub const PLAN_ROOM: usize = HEAD_BYTES
@@ -19,15 +19,6 @@ pub const PLAN_ROOM: usize = HEAD_BYTES
     + EDGE_BYTES * MOST_EDGES
     + 2 * MOST_SLOTS
     + TRAILER_BYTES;
-
-fn built(list: &[u8], room: &mut [u8]) -> Result<usize, BuildWhy> {
-    merge::build(list, room)
-}
-
-fn written(plan: &[u8], room: &mut [u8]) -> Result<usize, WriteWhy> {
-    let list = planfile::list_of(plan);
-    planfile::write(list, planfile::low_of(plan), planfile::high_of(plan), room)
-}
 
 fn read(plan: &[u8]) -> Result<Shape, ReadWhy> {
     planfile::read(plan)
@@ -49,16 +40,28 @@ pub fn join(alloc: Global, list: &[u8], lo: &[u8], hi: &[u8]) -> Result<Vec<u8>,
     Ok(bytes)
 }
 
+// What was made at the front of a room; why nothing was.
+fn front<'a, W: Refusal>(room: &'a [u8], made: Result<usize, W>) -> Result<&'a [u8], No>
+where
+    At: From<W::Place>,
+{
+    match made {
+        Ok(size) => Ok(part(room, 0, size)),
+        Err(w) => Err(No::of(w)),
+    }
+}
+
 /// Builds the plan of a list, at the front of a room.
 pub fn build<'a>(list: &[u8], room: &'a mut [u8]) -> Result<&'a [u8], No> {
-    let size = built(list, room).map_err(|w| No::of(w))?;
-    Ok(part(room, 0, size))
+    let made = merge::build(list, room);
+    front(room, made)
 }
 
 /// Writes the plan of the parts that were joined, at the front of a room.
 pub fn write<'a>(plan: &[u8], room: &'a mut [u8]) -> Result<&'a [u8], No> {
-    let size = written(plan, room).map_err(|w| No::of(w))?;
-    Ok(part(room, 0, size))
+    let list = planfile::list_of(plan);
+    let made = planfile::write(list, planfile::low_of(plan), planfile::high_of(plan), room);
+    front(room, made)
 }
 
 /// Whether bytes are a list; why not.
