@@ -1,14 +1,12 @@
 //! The words of a line, which stand between blanks and before a comment.
 
-// The largest number of 16 bits.
-const MOST: usize = 65535;
-
 fn is_blank(x: u8) -> bool {
     matches!(x, b' ' | b'\t' | b'\r')
 }
 
 /// Word k of a line; nothing where it has fewer.
 pub fn word(line: &[u8], k: usize) -> &[u8] {
+    // No word is empty, so `b""` says none; callers match words, and with `Some` before each they read no plainer.
     line.split(|x| is_blank(*x))
         .filter(|word| !word.is_empty())
         .nth(k)
@@ -23,6 +21,6 @@ pub fn bare(line: &[u8]) -> &[u8] {
 }
 
 /// A number of 16 bits.
-pub fn number(s: &[u8]) -> Option<usize> {
-    text::number(s, MOST)
+pub fn number(s: &[u8]) -> Option<u16> {
+    u16::try_from(text::number(s, usize::from(u16::MAX))?).ok()
 }

@@ -2,26 +2,24 @@
 use joblist::{EDGE_BYTES, HEAD_BYTES, JOB_BYTES, MOST_JOBS};
 use text::byte_at;
 
-// The pairs of jobs, and the bytes of a list that has every pair as an edge.
+// The pairs of jobs: no list has more edges.
 const PAIRS: usize = MOST_JOBS * MOST_JOBS;
 
-const LIST_ROOM: usize = HEAD_BYTES + JOB_BYTES * MOST_JOBS + EDGE_BYTES * PAIRS;
-
-// The place of a field of job j; past every list where it has no such job.
-fn field_at(j: usize, field: usize) -> usize {
+// The place of a field of job j; none where no list has such a job.
+fn field_at(j: usize, field: usize) -> Option<usize> {
     if j < MOST_JOBS && field < JOB_BYTES {
-        HEAD_BYTES + JOB_BYTES * j + field
+        Some(HEAD_BYTES + JOB_BYTES * j + field)
     } else {
-        LIST_ROOM
+        None
     }
 }
 
-// The place of edge e, after n jobs.
-fn edge_at(n: usize, e: usize) -> usize {
+// The place of edge e, after n jobs; none where no list has such an edge.
+fn edge_at(n: usize, e: usize) -> Option<usize> {
     if n <= MOST_JOBS && e <= PAIRS {
-        HEAD_BYTES + JOB_BYTES * n + EDGE_BYTES * e
+        Some(HEAD_BYTES + JOB_BYTES * n + EDGE_BYTES * e)
     } else {
-        LIST_ROOM
+        None
     }
 }
 
@@ -30,6 +28,11 @@ fn u16_at(list: &[u8], i: usize) -> usize {
     let low = byte_at(list, i);
     let high = byte_at(list, i.saturating_add(1));
     usize::from(u16::from_le_bytes([low, high]))
+}
+
+// A field of job j.
+fn field(list: &[u8], j: usize, field: usize) -> usize {
+    field_at(j, field).map_or(0, |i| u16_at(list, i))
 }
 
 pub fn jobs(list: &[u8]) -> usize {
@@ -45,29 +48,29 @@ pub fn slots(list: &[u8]) -> usize {
 }
 
 pub fn arrival(list: &[u8], j: usize) -> usize {
-    u16_at(list, field_at(j, 0))
+    field(list, j, 0)
 }
 
 pub fn deadline(list: &[u8], j: usize) -> usize {
-    u16_at(list, field_at(j, 2))
+    field(list, j, 2)
 }
 
 pub fn ordinary(list: &[u8], j: usize) -> usize {
-    u16_at(list, field_at(j, 4))
+    field(list, j, 4)
 }
 
 pub fn high(list: &[u8], j: usize) -> usize {
-    u16_at(list, field_at(j, 6))
+    field(list, j, 6)
 }
 
 pub fn is_high(list: &[u8], j: usize) -> bool {
-    byte_at(list, field_at(j, 8)) == 1
+    field_at(j, 8).is_some_and(|i| byte_at(list, i) == 1)
 }
 
 pub fn edge_from(list: &[u8], e: usize) -> usize {
-    usize::from(byte_at(list, edge_at(jobs(list), e)))
+    edge_at(jobs(list), e).map_or(0, |i| usize::from(byte_at(list, i)))
 }
 
 pub fn edge_to(list: &[u8], e: usize) -> usize {
-    usize::from(byte_at(list, edge_at(jobs(list), e).saturating_add(1)))
+    edge_at(jobs(list), e).map_or(0, |i| usize::from(byte_at(list, i.saturating_add(1))))
 }

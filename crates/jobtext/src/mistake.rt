@@ -7,6 +7,7 @@ use std::alloc::{AllocError, AllocFailed};
 
 /// What can be wrong with a line says what was expected there.
 pub trait Expected {
+    // Not `Display`: a page is handed on by value, so that would be no plainer, with a writer around it at each call.
     fn put_expected(&self, page: Page) -> Page;
 }
 

@@ -31,10 +31,6 @@ struct Reader {
     edges: BTreeSet<(u8, u8)>,
 }
 
-fn field(word: &[u8]) -> Option<u16> {
-    u16::try_from(number(word)?).ok()
-}
-
 // Whether a level is the high one.
 fn level(word: &[u8]) -> Option<bool> {
     match word {
@@ -49,7 +45,7 @@ fn high(word: &[u8], ordinary: u16) -> Option<u16> {
     if word.is_empty() {
         Some(ordinary)
     } else {
-        field(word)
+        number(word)
     }
 }
 
@@ -58,10 +54,10 @@ fn job_of(line: &[u8]) -> Result<Job, Wrong> {
     if word(line, 4).is_empty() {
         return Err(Wrong::Short);
     }
-    let arrival = field(word(line, 1)).ok_or(Wrong::Arrival)?;
-    let deadline = field(word(line, 2)).ok_or(Wrong::Deadline)?;
+    let arrival = number(word(line, 1)).ok_or(Wrong::Arrival)?;
+    let deadline = number(word(line, 2)).ok_or(Wrong::Deadline)?;
     let is_high = level(word(line, 3)).ok_or(Wrong::Level)?;
-    let ordinary = field(word(line, 4)).ok_or(Wrong::Ordinary)?;
+    let ordinary = number(word(line, 4)).ok_or(Wrong::Ordinary)?;
     let high = high(word(line, 5), ordinary).ok_or(Wrong::High)?;
     if !word(line, 6).is_empty() {
         return Err(Wrong::Long);

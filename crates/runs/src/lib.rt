@@ -154,7 +154,7 @@ fn put_answer(page: Page, names: &Names, answer: Answer, state: &State) -> Page 
 
 // The tick of a line, and whether the word end stands after it: none where anything else does.
 fn tick_of(line: &[u8]) -> Option<(u16, bool)> {
-    let tick = u16::try_from(number(word(line, 0))?).ok()?;
+    let tick = number(word(line, 0))?;
     match (word(line, 1), word(line, 2)) {
         (b"", b"") => Some((tick, false)),
         (b"end", b"") => Some((tick, true)),
@@ -203,6 +203,7 @@ pub fn file(rt: &HostRuntime, page: Page, plan: &[u8], names: &Names, file: &Fil
 pub fn made(page: Page, plan: &[u8], names: &Names, n: usize) -> Page {
     let mut run = Run::new(page, plan, names);
     let mut tick = FIRST;
+    // The tick wraps at 65535, so no range counts it.
     for _ in 0..n {
         let ended = run.ends();
         run = run.step(tick, ended);

@@ -27,6 +27,13 @@ struct Run {
     entry: u8,
 }
 
+// One of the two tables.
+#[derive(Clone, Copy)]
+enum Which {
+    Low,
+    High,
+}
+
 // What the lines are about, both tables so far, and which of them the lines are of.
 #[derive(Drop)]
 struct Reader<'a> {
@@ -34,16 +41,19 @@ struct Reader<'a> {
     names: &'a Names,
     low: Half,
     high: Half,
-    is_high: bool,
+    which: Which,
 }
 
 // The first and the last slot of a run, which are one where the word has no dash.
 fn slots_of(word: &[u8]) -> Option<(usize, usize)> {
-    let Some(dash) = word.iter().position(|x| *x == b'-') else {
-        let slot = number(word)?;
-        return Some((slot, slot));
+    let (from, last) = match word.iter().position(|x| *x == b'-') {
+        Some(dash) => (number(&word[..dash])?, number(&word[dash + 1..])?),
+        None => {
+            let slot = number(word)?;
+            (slot, slot)
+        }
     };
-    Some((number(&word[..dash])?, number(&word[dash + 1..])?))
+    Some((usize::from(from), usize::from(last)))
 }
 
 // Whether a line has slots and a name, or slots and a job's number.
@@ -102,7 +112,7 @@ impl<'a> Reader<'a> {
             names,
             low: Half::new(alloc, slots)?,
             high: Half::new(alloc, slots)?,
-            is_high: false,
+            which: Which::Low,
         })
     }
 
@@ -111,7 +121,8 @@ impl<'a> Reader<'a> {
         let jobs = list::jobs(self.list);
         if !word(line, 2).is_empty() {
             let last = jobs.saturating_sub(1);
-            return entry_of(number(word(line, 2)), jobs).ok_or(Wrong::Number(last));
+            let job = number(word(line, 2)).map(usize::from);
+            return entry_of(job, jobs).ok_or(Wrong::Number(last));
         }
         if word(line, 1) == b"idle".as_slice() {
             return Ok(Table::IDLE);
@@ -121,14 +132,16 @@ impl<'a> Reader<'a> {
 
     // The table that the lines are of.
     fn half(&self) -> &Half {
-        if self.is_high { &self.high } else { &self.low }
+        match self.which {
+            Which::Low => &self.low,
+            Which::High => &self.high,
+        }
     }
 
     fn half_mut(&mut self) -> &mut Half {
-        if self.is_high {
-            &mut self.high
-        } else {
-            &mut self.low
+        match self.which {
+            Which::Low => &mut self.low,
+            Which::High => &mut self.high,
         }
     }
 
@@ -158,9 +171,9 @@ impl<'a> Reader<'a> {
 
     // A line of one word: the heading of a table that no line has begun yet.
     fn heading(&mut self, number: usize, name: &[u8]) -> Result<(), Wrong> {
-        self.is_high = match name {
-            b"LO" => false,
-            b"HI" => true,
+        self.which = match name {
+            b"LO" => Which::Low,
+            b"HI" => Which::High,
             _ => return Err(Wrong::Neither),
         };
         if self.half().heading.is_some() {
@@ -186,16 +199,14 @@ impl<'a> Reader<'a> {
 /// Reads a text of the tables of a list, whose jobs have the names.
 pub fn read(alloc: Global, text: &[u8], list: &[u8], names: &Names) -> Result<Tables, Mistake> {
     let mut reader = Reader::new(alloc, list, names)?;
-    let mut next = 1;
-    for line in text.split_inclusive(|x| *x == b'\n') {
+    for (line, number) in text.split_inclusive(|x| *x == b'\n').zip(1..) {
         reader
-            .line(next, bare(line))
-            .map_err(|wrong| Mistake::Line(next, wrong))?;
-        next = next.saturating_add(1);
+            .line(number, bare(line))
+            .map_err(|wrong| Mistake::Line(number, wrong))?;
     }
-    let low = reader.low.bytes(alloc, Mistake::Line(next, Wrong::NoLow))?;
-    let high = reader
-        .high
-        .bytes(alloc, Mistake::Line(next, Wrong::NoHigh))?;
+    let lines = text.split_inclusive(|x| *x == b'\n').count();
+    let end = lines.saturating_add(1);
+    let low = reader.low.bytes(alloc, Mistake::Line(end, Wrong::NoLow))?;
+    let high = reader.high.bytes(alloc, Mistake::Line(end, Wrong::NoHigh))?;
     Ok(Tables { low, high })
 }

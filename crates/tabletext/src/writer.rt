@@ -30,6 +30,7 @@ fn put_slots(page: Page, from: usize, last: usize, columns: usize) -> Page {
 fn put_table(page: Page, table: &[u8], names: &Names) -> Page {
     let most = digits(table.len().saturating_sub(1));
     let columns = most.saturating_mul(2).saturating_add(3);
+    // `chunk_by` gives no places, and a fold over the page and the slot, a pair, is no plainer.
     let mut to = page;
     let mut from = 0usize;
     for run in table.chunk_by(|x, y| x == y) {
