@@ -186,34 +186,30 @@ static REFUSALS: [Row; 35] = [
     },
 ];
 
-// What stands for a number that no refusal has.
-static NO_REFUSAL: Row = Row {
-    number: 0,
-    meaning: "",
-    advice: "",
-};
-
-fn of_number(number: usize) -> &'static Row {
-    REFUSALS
-        .iter()
-        .find(|r| r.number == number)
-        .unwrap_or(&NO_REFUSAL)
+fn of_number(number: usize) -> Option<&'static Row> {
+    REFUSALS.iter().find(|row| row.number == number)
 }
 
 /// What a number means; nothing where no refusal has it.
 pub fn meaning(page: Page, number: usize) -> Page {
-    page.put(of_number(number).meaning.as_bytes())
+    match of_number(number) {
+        Some(row) => page.put(row.meaning.as_bytes()),
+        None => page,
+    }
 }
 
 /// What to do about it.
 pub fn advice(page: Page, number: usize) -> Page {
-    page.put(of_number(number).advice.as_bytes())
+    match of_number(number) {
+        Some(row) => page.put(row.advice.as_bytes()),
+        None => page,
+    }
 }
 
-fn put_refusal(page: Page, r: &Row) -> Page {
-    let said = page.number_right(r.number, 4).blank(2);
-    let to = said.line(r.meaning.as_bytes()).blank(6);
-    to.put(b"do: ").line(r.advice.as_bytes())
+fn put_refusal(page: Page, row: &Row) -> Page {
+    let said = page.number_right(row.number, 4).blank(2);
+    let to = said.line(row.meaning.as_bytes()).blank(6);
+    to.put(b"do: ").line(row.advice.as_bytes())
 }
 
 /// All of them.

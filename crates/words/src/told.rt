@@ -68,6 +68,7 @@ fn put_slot(page: Page, t: usize) -> Page {
     label(page, b"slot").number(t).end()
 }
 
+// A fault has its switch as a number: `Fault::NO_SWITCH` is a form that document 01 names (DECISIONS, 'Forms').
 fn put_switch(page: Page, x: usize) -> Page {
     if x == Fault::NO_SWITCH {
         return label(page, b"switch").line(b"none: table LO, with ordinary budgets");
