@@ -7,11 +7,8 @@ use native.Mathlib.Decide.{ℕ_discrete}
 use native.Mathlib.Nat.{le_antisymm, zero-add, suc-add}
 use native.Mathlib.Numerals.{add-one}
 use native.Mathlib.Omega.{arith}
-use lib.ListN.{length, get_or, set, take, replicate, length-set, length-replicate, get_or-append}
-use lib.Seq.{get_or-set_same, get_or-set_other, get_or-append-add}
-use Rattle.std.proofs.Common.{append_assoc, ◌-◌}
-use Rattle.std.proofs.lemmas.List.{length-take}
-use Rattle.std.proofs.Math.Seq.{take-suc}
+use lib.ListN.{length, get_or, set, replicate, length-set, length-replicate, replicate-append-replicate, get_or-append}
+use lib.Seq.{get_or-set_same, get_or-set_other, get_or-append-add, set-append_left}
 use Rattle.dispatch.specs.Open.{entries}
 
 pub entries_same : (k : ℕ) (f g : ℕ → ℕ) (n : ℕ) → ((i : ℕ) → i < n → f i ≡ g i) → entries k f n ≡ entries k g n
@@ -53,22 +50,26 @@ set_append_add : (xs ys : List ℕ) (i a : ℕ) → set (xs ++ ys) (length xs + 
 set_append_add [] ys i a = ap (λ k. set ys k a) (zero-add i)
 set_append_add (x ∷ xs) ys i a = ap (λ k. set (x ∷ (xs ++ ys)) k a) (suc-add (length xs) i) ∙ ap (λ (l : List ℕ). x ∷ l) (set_append_add xs ys i a)
 
--- the first n of a list, copied over zeros
-pub copied : (k : ℕ) (f : ℕ → ℕ) (l : List ℕ) (n : ℕ) → n ≤ length l → n ≤ k → ((i : ℕ) → i < n → get_or l i 0 ≡ f i) → take n l ++ replicate (k - n) 0 ≡ entries k f n
-unfolding entries
-copied k f l zero a b h = ap (λ m. replicate m 0) (omega arith)
-copied k f l (suc n) a b h =
-    let many : length (take n l) ≡ n = omega (arith, length-take n l) in
-    let more : k - n ≡ suc (k - suc n) = omega arith in
-    ap (λ m. m ++ replicate (k - suc n) 0) (take-suc l n 0 (omega arith))
-    ∙ append_assoc (take n l) (get_or l n 0 ∷ []) (replicate (k - suc n) 0)
-    ∙ ap (λ x. take n l ++ (x ∷ replicate (k - suc n) 0)) (h n (omega arith))
-    ∙ ap (λ m. take n l ++ set (replicate m 0) 0 (f n)) (sym more)
-    ∙ sym (set_append_add (take n l) (replicate (k - n) 0) 0 (f n))
-    ∙ ap₂ (λ m i. set m i (f n)) (copied k f l n (omega arith) (omega arith) (λ i c. h i (omega arith))) (omega arith)
-
--- Two rows side by side.
+-- Two rows side by side, filled together.
 module _ (k : ℕ) (f g : ℕ → ℕ) where
+  pub both_none : replicate (k + k) 0 ≡ entries k f 0 ++ entries k g 0
+  unfolding entries
+  both_none = sym (replicate-append-replicate k k 0)
+
+  pub both_turn : (l : List ℕ) (n : ℕ) → n < k → l ≡ entries k f n ++ entries k g n
+      → set (set l n (f n)) (k + n) (g n) ≡ entries k f (n + 1) ++ entries k g (n + 1)
+  unfolding entries
+  both_turn l n h p =
+      let e : set l n (f n) ≡ set (entries k f n) n (f n) ++ entries k g n =
+      ap (λ (m : List ℕ). set m n (f n)) p ∙ set-append_left (entries k f n) (entries k g n) n (f n) (omega (arith, entries_length k f n)) in
+      let w : length (set (entries k f n) n (f n)) ≡ k = length-set (entries k f n) n (f n) ∙ entries_length k f n in
+      ap₂ (λ (m : List ℕ) i. set m (i + n) (g n)) e (sym w)
+      ∙ set_append_add (set (entries k f n) n (f n)) (entries k g n) n (g n)
+      ∙ ap (λ i. entries k f i ++ entries k g i) (sym (add-one n))
+
+  pub both_done : (l : List ℕ) (n i : ℕ) → i ≤ n → n ≤ i → l ≡ entries k f i ++ entries k g i → l ≡ entries k f n ++ entries k g n
+  both_done l n i a b p = p ∙ ap (λ m. entries k f m ++ entries k g m) (le_antisymm a b)
+
   -- what stands in the first, and in the second
   pub first_at : (n : ℕ) → n ≤ k → (i : ℕ) → i < n → get_or (entries k f n ++ entries k g n) i 0 ≡ f i
   first_at n l i h = get_or-append (entries k f n) (entries k g n) 0 i (omega (arith, entries_length k f n)) ∙ entries_at k f n l i h

@@ -32,26 +32,31 @@ fn numbers(list: &[u8], n: usize) -> [u16; JOBS]
     out
 }
 
-// The ends of m edges after n jobs.
+// The ends of m edges after n jobs. By place, here and below: `copy_from_slice` was tried, and then opening takes 6,700 bytes of stack
+// more, which is over `HUT_STACK_OPEN`.
+#[tactic(auto, using(crate::proofs::Entries::entries_none, crate::proofs::Entries::entries_turn, crate::proofs::Entries::entries_done), unfolding(crate::specs::Open::edges_of))]
 fn ends(list: &[u8], n: usize, m: usize) -> [u8; ENDS]
     requires { (n ≤ first_edition.jobs) × (m ≤ first_edition.edges) × (list_bytes n m ≤ length list.now) }
     ensures { result ≡ edges_of first_edition list.now n m }
 {
     let mut out = [0u8; ENDS];
-    let from = HEAD_BYTES + JOB_BYTES * n;
-    out[..2 * m].copy_from_slice(&list[from..][..2 * m]);
+    for i in 0..2 * m {
+        out[i] = list[HEAD_BYTES + JOB_BYTES * n + i];
+    }
     out
 }
 
 // Both tables, of n slots each.
+#[tactic(auto, using(crate::proofs::Entries::both_none, crate::proofs::Entries::both_turn, crate::proofs::Entries::both_done), unfolding(crate::specs::Open::tables_of))]
 fn tables(lo: &[u8], hi: &[u8], n: usize) -> [u8; ENTRIES]
     requires { (n ≤ first_edition.slots) × (n ≤ length lo.now) × (n ≤ length hi.now) }
     ensures { result ≡ tables_of first_edition lo.now hi.now n }
 {
     let mut out = [0u8; ENTRIES];
-    let (low, high) = out.split_at_mut(MOST_SLOTS);
-    low[..n].copy_from_slice(&lo[..n]);
-    high[..n].copy_from_slice(&hi[..n]);
+    for t in 0..n {
+        out[t] = lo[t];
+        out[MOST_SLOTS + t] = hi[t];
+    }
     out
 }
 
@@ -65,15 +70,18 @@ fn fields(list: &[u8], lo: &[u8], hi: &[u8]) -> Plan
     let n = joblist::jobs_of(list);
     let m = joblist::edges_of(list);
     let len = joblist::slots_of(list);
+    let jobs = numbers(list, n);
+    let edges = ends(list, n, m);
+    let tables = tables(lo, hi, len);
     Plan {
         counts: Counts {
             len: len as u16,
             n: n as u16,
             m: m as u16,
         },
-        jobs: numbers(list, n),
-        edges: ends(list, n, m),
-        tables: tables(lo, hi, len),
+        jobs,
+        edges,
+        tables,
     }
 }
 
