@@ -38,7 +38,7 @@ pub fn put_hex(out: &mut [u8], at: usize, s: &[u8]) -> usize
     at
 }
 
-// What a digit is worth; 16 for a byte that is none.
+// What a digit is worth; 16 for a byte that is none: a number and no `Option`, as `worth` has it, on which `bytes_of` stands.
 #[tactic(auto, unfolding(crate::specs::Hex::worth))]
 fn worth_of(x: u8) -> u8
     ensures { result ≡ worth x }

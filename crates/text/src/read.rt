@@ -30,7 +30,8 @@ pub fn number(s: &[u8], most: usize) -> Option<usize>
     Some(n)
 }
 
-/// The first place from `from` on where the byte x stands; the length where there is none.
+/// The first place from `from` on where the byte x stands; the length where there is none, as `lowest` and the edit
+/// `any_lower_byte` have it.
 pub fn find(s: &[u8], from: usize, x: u8) -> usize
     ensures { (result ≡ lowest (λ i. eqb (get_or s.now i 0) x) (length s.now) from) × (result ≤ length s.now) × (from ≤ length s.now → from ≤ result) }
 {
