@@ -2,6 +2,9 @@
 //!
 //! Nothing is asked of a caller, and no piece is left out: one that is longer than a page goes by itself. Blanks are held
 //! back until something follows them, so that no line ends in one.
+//!
+//! A piece goes on by a method of its own and not by `write!` with a `Display`: a page is handed on by value, and a method
+//! cannot fail, where each `write!` answers a `Result`; a loss is kept on the page and told once, at the end.
 #![tactic(auto)]
 
 mod number;

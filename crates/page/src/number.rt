@@ -1,5 +1,6 @@
 //! Numbers of columns and places, which never run over. They are the library's methods, which the crates above call by their
-//! own names; these stay, since they are promised.
+//! own names; these stay for the edits `below_zero` (of `less`), `higher` (of `lower`), `round_to_zero` (of `plus`) and
+//! `same_number` (of `after`), which the prover must refuse.
 ghost use Rattle.std.specs.Prelude.{◌≡◌, ◌+◌, ◌-◌, min};
 
 /// The difference; 0 where it would be below 0.
