@@ -31,7 +31,7 @@ fn put_switch(page: Page, x: usize) -> Page {
     page.put(b" switch=").number(x)
 }
 
-/// A place that an answer line shows behind the number.
+/// A place that an answer line shows behind the number. It is no `Display`: a page is handed on by value.
 pub trait Shown {
     fn put_on(self, page: Page) -> Page;
 }
@@ -90,4 +90,21 @@ where
 {
     let next = page.number(answer_number(answer));
     answer_place(answer).put_on(next)
+}
+
+/// An answer, and more behind it where nothing is refused.
+pub fn put_answer_with<T: Copy, W: Refusal, F: FnOnce(Page, T) -> Page>(
+    page: Page,
+    answer: Result<T, W>,
+    more: F,
+) -> Page
+where
+    W::Place: Shown,
+    requires { F.IsAlwaysCallable more }
+{
+    let next = put_answer(page, answer);
+    match answer {
+        Ok(x) => more(next, x),
+        Err(_) => next,
+    }
 }
