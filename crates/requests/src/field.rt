@@ -1,4 +1,4 @@
-// What a field of a line says: a number, or bytes in hex, decoded into a room that is lent.
+//! What a field of a line says: a number, or bytes in hex, decoded into a room that is lent.
 
 // No field says more bytes.
 const MOST_BYTES: usize = 65536;

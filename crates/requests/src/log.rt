@@ -1,4 +1,4 @@
-// What a line asks of the log: its word and its fields, read.
+//! What a line asks of the log: its word and its fields, read.
 use crate::field::bytes;
 use text::number;
 
@@ -13,7 +13,8 @@ const MOST_SHOWN: usize = 4096;
 // No power lasts for more writes.
 const MOST_WRITES: usize = 200000;
 
-/// A request of the log with its numbers and its bytes.
+/// A request of the log with its numbers and its bytes. A store's byte is any number, taken modulo 256: a `u8` would ask more
+/// of who makes a request.
 #[derive(Clone, Copy)]
 pub enum LogRequest<'a> {
     Store { size: usize, byte: usize },

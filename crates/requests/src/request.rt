@@ -1,4 +1,4 @@
-// What a line asks: its word and its fields, read.
+//! What a line asks: its word and its fields, read.
 use crate::field::{bytes, decoded, mark, word};
 use crate::log::{LogRequest, log_asked};
 use poke::field::Field;
@@ -13,6 +13,7 @@ const MOST_FIELDS: usize = 5;
 // No number is larger, and no more bytes are lent.
 const MOST_NUMBER: usize = 65535;
 
+/// No more bytes are lent for a plan to be written in.
 pub const MOST_ROOM: usize = 4096;
 
 /// A list, and two tables of it.
@@ -134,9 +135,9 @@ pub fn request_of<'a>(line: &[u8], room: &'a mut [u8]) -> Option<Request<'a>> {
     // An array and no `Vec`, so that no memory can run out here.
     let mut fields = [b"".as_slice(); MOST_FIELDS];
     let mut count = 0;
-    for field in line.split(|x| *x == b' ') {
-        *fields.get_mut(count)? = field;
-        count += 1;
+    for (i, field) in line.split(|x| *x == b' ').enumerate() {
+        *fields.get_mut(i)? = field;
+        count = i + 1;
     }
     asked(fields.get(..count)?, room)
 }
