@@ -10,6 +10,7 @@ use std::alloc::Global;
 use std::iter::successors;
 use words::{No, label};
 
+/// The place behind a plan.
 pub fn end_of(span: Span) -> usize {
     span.start.saturating_add(span.size)
 }
