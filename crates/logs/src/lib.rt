@@ -38,6 +38,7 @@ impl Store<'_> {
     }
 
     fn make_of(self, size: usize) {
+        // An array and no `Vec`, so that no memory can run out here.
         let zeros = [0u8; STORE_MOST];
         if files::create(self.rt, self.path, zeros.get(..size).unwrap_or(&zeros)) {
             send(logtext::put_made(Page::output(self.rt), self.path, size));
@@ -121,7 +122,8 @@ impl Store<'_> {
     }
 }
 
-/// desk log STORE WORD ..: whether there is such a command. Each but list is given one word more.
+/// desk log STORE WORD ..: whether there is such a command. Each but list is given one word more; an empty word is as good
+/// as none.
 pub fn command(rt: &HostRuntime, path: &[u8], word: &[u8], given: &[u8]) -> bool {
     let store = Store { rt, path };
     match (word, given) {

@@ -1,5 +1,5 @@
-// The writes of an append, made in the file one by one and in the log's order, so that a program that ends between two of
-// them leaves what a cut of power leaves.
+//! The writes of an append, made in the file one by one and in the log's order, so that a program that ends between two of
+//! them leaves what a cut of power leaves.
 use std::fs::File;
 use std::io;
 use std::os::unix::fs::FileExt;
