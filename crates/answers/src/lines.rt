@@ -1,4 +1,4 @@
-// Lines in, lines out: a line is kept until it ends.
+//! Lines in, lines out: a line is kept until it ends.
 use crate::reply::Desk;
 use requests::{MOST_LINE, request_of};
 use std::alloc::AllocError;

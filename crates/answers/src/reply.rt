@@ -1,4 +1,4 @@
-// The answer to each request, by the proved calls.
+//! The answer to each request, by the proved calls.
 use crate::show::put_state;
 use dispatch::state::State;
 use machine::answer::Answer;
@@ -6,7 +6,7 @@ use page::Page;
 use poke::field::Field;
 use poke::poked;
 use refusal::Refusal;
-use replytext::{Shown, put_answer, put_bytes};
+use replytext::{Shown, put_answer, put_answer_with, put_bytes};
 use requests::{LogRequest, MOST_ROOM, MOST_STORE, Request, Tables};
 use std::alloc::AllocError;
 
@@ -120,12 +120,7 @@ fn put_plan(page: Page, plan: &[u8]) -> Page {
 }
 
 fn put_read(page: Page, plan: &[u8]) -> Page {
-    let answer = planfile::read(plan);
-    let next = put_answer(page, answer);
-    match answer {
-        Ok(_) => put_plan(next, plan),
-        Err(_) => next,
-    }
+    put_answer_with(page, planfile::read(plan), |page, _| put_plan(page, plan))
 }
 
 fn put_count(page: Page, table: &[u8], job: usize, slot: usize) -> Page {
@@ -135,11 +130,11 @@ fn put_count(page: Page, table: &[u8], job: usize, slot: usize) -> Page {
 
 // The order, or why there is none.
 fn put_order(page: Page, answer: Answer) -> Page {
-    let next = put_answer(page, answer);
-    match answer {
-        Ok(j) => next.put(b" order=").number(usize::from(j)),
-        Err(_) => next,
-    }
+    put_answer_with(
+        page,
+        answer,
+        |page, j| page.put(b" order=").number(usize::from(j)),
+    )
 }
 
 fn put_reply(page: Page, request: Option<Request<'_>>) -> Page {

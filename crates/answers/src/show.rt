@@ -1,4 +1,4 @@
-// The dispatcher's state as text, for the jobs below n.
+//! The dispatcher's state as text, for the jobs below n.
 use dispatch::state::State;
 use joblist::MOST_JOBS;
 use page::Page;

@@ -4,7 +4,7 @@
 use logwalk::Span;
 use page::Page;
 use planlog::AppendWhy;
-use replytext::{put_answer, put_bytes};
+use replytext::{put_answer_with, put_bytes};
 use requests::LogRequest;
 use std::iter::successors;
 
@@ -43,20 +43,13 @@ fn put_start(page: Page, start: usize) -> Page {
 }
 
 fn put_appended(page: Page, answer: Result<usize, AppendWhy>) -> Page {
-    let next = put_answer(page, answer);
-    match answer {
-        Ok(start) => put_start(next, start),
-        Err(_) => next,
-    }
+    put_answer_with(page, answer, |page, start| put_start(page, start))
 }
 
 fn reply_newest(page: Page, store: &[u8]) -> Page {
-    let answer = logwalk::newest(store);
-    let next = put_answer(page, answer);
-    match answer {
-        Ok(plan) => put_start(next, plan.start).put(b" size=").number(plan.size),
-        Err(_) => next,
-    }
+    put_answer_with(page, logwalk::newest(store), |page, plan| {
+        put_start(page, plan.start).put(b" size=").number(plan.size)
+    })
 }
 
 // The starts of the plans before a plan, the newest first: no store has more plans than bytes.
@@ -68,12 +61,9 @@ fn put_earlier(page: Page, store: &[u8], plan: Span) -> Page {
 }
 
 fn reply_listed(page: Page, store: &[u8]) -> Page {
-    let answer = logwalk::newest(store);
-    let next = put_answer(page, answer);
-    match answer {
-        Ok(plan) => put_earlier(put_start(next, plan.start), store, plan),
-        Err(_) => next,
-    }
+    put_answer_with(page, logwalk::newest(store), |page, plan| {
+        put_earlier(put_start(page, plan.start), store, plan)
+    })
 }
 
 fn reply_peek(page: Page, store: &[u8], at: usize, count: usize) -> Page {
