@@ -94,7 +94,7 @@ impl View<'_> {
         page.put(b"L ")
     }
 
-    // Whether a job has a slot.
+    // Whether a job has a slot. As a `Grid` of a picture has it: a call with the table named would be as long as this line.
     fn has(self, j: usize, t: usize) -> bool {
         self.plan.entry(self.table, t) == j
     }

@@ -8,7 +8,7 @@ use page::Page;
 use picture::shapes::{head, key, label, text_at, text_end, upright};
 use picture::sheet::{Grid, MARGIN, Sheet};
 use refusal::Refusal;
-use verdict::{Fault, Objection};
+use verdict::Fault;
 
 // How a slot looks that did not run, and the fault.
 const STYLE: &[u8] =
@@ -64,11 +64,11 @@ fn put_slots(page: Page, grid: Grid, opened: Night, end: usize) -> Page {
 }
 
 // The switch: a line at the end of its slot.
-fn put_switch(page: Page, grid: Grid, x: usize) -> Page {
-    if x == Fault::NO_SWITCH {
+fn put_switch(page: Page, grid: Grid, switch: Option<usize>) -> Page {
+    let Some(t) = switch else {
         return page;
-    }
-    let at = grid.sheet.x_of(x.saturating_add(1));
+    };
+    let at = grid.sheet.x_of(t.saturating_add(1));
     upright(
         page,
         b"switch",
@@ -119,9 +119,8 @@ fn put_bad(page: Page, night: Night, f: Fault) -> Page {
 
 /// The night behind the fault of a plan; nothing where the check names none.
 pub fn put_picture(page: Page, plan: Plan) -> Page {
-    let w = witness_of(plan);
-    let Err(Objection::Bad(f)) = w.verdict else {
-        return page;
-    };
-    put_bad(page, Night::opened(plan, w.needs), f)
+    match witness_of(plan) {
+        Some((night, f)) => put_bad(page, night, f),
+        None => page,
+    }
 }

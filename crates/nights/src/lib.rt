@@ -3,8 +3,7 @@
 
 use drawing::plan::{Plan, Table};
 use page::Page;
-use verdict::Objection;
-use witness::needs::Witness;
+use verdict::{Fault, Objection};
 
 pub mod night;
 mod told;
@@ -12,16 +11,19 @@ mod told;
 use night::Night;
 pub use told::{At, budgets};
 
-/// The check's answer with the needs behind it: what it promises is proved where it is made, and no page needs it.
-pub fn witness_of(plan: Plan) -> Witness {
-    witness::witness(plan.list(), plan.table(Table::Low), plan.table(Table::High))
+/// The night behind the fault of a plan, as it opens, and the fault; none where the check names none.
+pub fn witness_of(plan: Plan<'_>) -> Option<(Night<'_>, Fault)> {
+    let witnessed = witness::witness(plan.list(), plan.table(Table::Low), plan.table(Table::High));
+    match witnessed.verdict {
+        Err(Objection::Bad(f)) => Some((Night::opened(plan, witnessed.needs), f)),
+        _ => None,
+    }
 }
 
-/// The night behind the fault of a plan; nothing where the check names none.
+/// That night, slot by slot; nothing where the check names no fault.
 pub fn put_night(page: Page, plan: Plan) -> Page {
-    let w = witness_of(plan);
-    let Err(Objection::Bad(f)) = w.verdict else {
-        return page;
-    };
-    told::put_slots(page, Night::opened(plan, w.needs), f)
+    match witness_of(plan) {
+        Some((night, f)) => told::put_slots(page, night, f),
+        None => page,
+    }
 }

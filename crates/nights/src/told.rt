@@ -5,12 +5,12 @@ use jobtext::list;
 use page::Page;
 use verdict::Fault;
 
-/// Where a fault is: its slot, its job and its switch slot.
+/// Where a fault is: its slot, its job and its switch slot, where it has one.
 #[derive(Clone, Copy)]
 pub struct At {
     pub slot: usize,
     pub job: usize,
-    pub switch: usize,
+    pub switch: Option<usize>,
 }
 
 impl From<Fault> for At {
@@ -18,7 +18,11 @@ impl From<Fault> for At {
         match f {
             Fault::Late(slot, job, switch)
             | Fault::Early(slot, job, switch)
-            | Fault::Before(slot, job, _, switch) => At { slot, job, switch },
+            | Fault::Before(slot, job, _, switch) => At {
+                slot,
+                job,
+                switch: (switch != Fault::NO_SWITCH).then_some(switch),
+            },
         }
     }
 }

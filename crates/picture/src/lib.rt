@@ -30,6 +30,7 @@ fn put_switch(page: Page, sheet: Sheet, t: usize) -> Page {
     upright(page, b"switch", sheet.x_of(t.saturating_add(1)), from, to)
 }
 
+// The first two keys are also those of a night: a function for two calls is no plainer than the calls.
 fn put_legend(page: Page) -> Page {
     let high = key(page, b"high", 20, b"high job");
     let low = key(high, b"low", 124, b"low job");

@@ -134,6 +134,7 @@ impl Grid<'_> {
 
     /// Whether a job has a slot.
     pub fn has(self, j: usize, t: usize) -> bool {
+        // As a `View` of the terminal has it: a call with the table named would be as long as this line.
         self.sheet.plan.entry(self.table, t) == j
     }
 
