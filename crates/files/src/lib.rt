@@ -57,16 +57,6 @@ fn open_new(rt: &HostRuntime, path: &[u8]) -> io::Result<fs::File> {
     fs::File::create_new(rt, path_of(path)?)
 }
 
-/// One read, behind what is there: how many bytes, none at the end or where the buffer is full. The place stands apart from
-/// the buffer, so that a full one costs no read: of some files an empty one fails.
-pub fn read_more(file: &fs::File, buf: &mut [u8], have: usize) -> io::Result<usize> {
-    if buf.len() <= have {
-        return Ok(0);
-    }
-    let mut from = file;
-    from.read(&mut buf[have..])
-}
-
 // Reads to the end, or as many bytes as are read at most.
 fn read_all(rt: &HostRuntime, file: &fs::File) -> io::Result<Vec<u8>> {
     let mut bytes = Vec::new(rt.alloc());
@@ -103,12 +93,14 @@ pub fn read(rt: &HostRuntime, path: &[u8]) -> Option<Vec<u8>> {
     }
 }
 
-// Whether what is left of a file is just these bytes. It is not kept: no memory can run out here.
+// Whether what is left of a file is just these bytes. It is not kept: no memory can run out here. A proved loop ends, so it has
+// a bound: no plan has as many bytes, and each read but the last gives one.
 fn holds(file: &fs::File, bytes: &[u8]) -> io::Result<bool> {
     let mut piece = [0u8; PIECE];
+    let mut from = file;
     let mut left = bytes;
     for _ in 0..MOST {
-        let k = read_more(file, &mut piece, 0)?;
+        let k = from.read(&mut piece)?;
         if k == 0 {
             return Ok(left.is_empty());
         }
