@@ -4,8 +4,8 @@
 use jobtext::{Names, list};
 use logwalk::{FindWhy, STORE_MOST, Span};
 use page::Page;
+use planfile::list_of;
 use planlog::AppendWhy;
-use plans::list_of;
 use std::alloc::Global;
 use std::iter::successors;
 use words::{No, label};

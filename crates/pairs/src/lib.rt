@@ -58,28 +58,22 @@ fn named<'a>(
     rt: &HostRuntime,
     path: &'a [u8],
     bytes: Vec<u8>,
-    from: Option<&[u8]>,
+    jobs: Option<&[u8]>,
 ) -> Option<Pair<'a>> {
-    let Some(jobs) = from else {
-        return Some(Pair {
-            path,
-            source: Source::Plan,
-            bytes,
-            names: Names::none(rt.alloc()),
-        });
-    };
-    let Jobs { list, names } = read_jobs(rt, jobs)?;
-    let is_other = list.as_slice() != plans::list_of(&bytes);
-    Some(Pair {
+    let mut pair = Pair {
         path,
-        source: if is_other {
-            Source::PlanOfOther
-        } else {
-            Source::Plan
-        },
+        source: Source::Plan,
         bytes,
-        names,
-    })
+        names: Names::none(rt.alloc()),
+    };
+    if let Some(jobs) = jobs {
+        let Jobs { list, names } = read_jobs(rt, jobs)?;
+        if list.as_slice() != pair.plan().list() {
+            pair.source = Source::PlanOfOther;
+        }
+        pair.names = names;
+    }
+    Some(pair)
 }
 
 /// A plan file, with the names of its jobs.

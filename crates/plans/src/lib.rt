@@ -1,12 +1,12 @@
-//! What building, writing and checking say, on a page. The calls stand here by themselves: what they promise is proved where
-//! they are made, and no page needs it.
+//! What building, writing and checking say, on a page. What the calls promise is proved where they are made, and no page needs
+//! it.
 #![tactic(auto)]
 
 use drawing::plan::Plan;
 use drawing::put_counts;
 use joblist::{EDGE_BYTES, HEAD_BYTES, JOB_BYTES, MOST_EDGES, MOST_JOBS, MOST_SLOTS};
 use page::Page;
-use planfile::{ReadWhy, Shape, TRAILER_BYTES};
+use planfile::{ReadWhy, TRAILER_BYTES, high_of, list_of, low_of, read};
 use refusal::Refusal;
 use std::alloc::{AllocError, Global};
 use text::part;
@@ -19,15 +19,6 @@ pub const PLAN_ROOM: usize = HEAD_BYTES
     + EDGE_BYTES * MOST_EDGES
     + 2 * MOST_SLOTS
     + TRAILER_BYTES;
-
-fn read(plan: &[u8]) -> Result<Shape, ReadWhy> {
-    planfile::read(plan)
-}
-
-/// The list of a plan.
-pub fn list_of(plan: &[u8]) -> &[u8] {
-    planfile::list_of(plan)
-}
 
 /// The bytes of a plan with these parts, whatever the check says of them.
 pub fn join(alloc: Global, list: &[u8], lo: &[u8], hi: &[u8]) -> Result<Vec<u8>, AllocError> {
@@ -59,14 +50,13 @@ pub fn build<'a>(list: &[u8], room: &'a mut [u8]) -> Result<&'a [u8], No> {
 
 /// Writes the plan of the parts that were joined, at the front of a room.
 pub fn write<'a>(plan: &[u8], room: &'a mut [u8]) -> Result<&'a [u8], No> {
-    let list = planfile::list_of(plan);
-    let made = planfile::write(list, planfile::low_of(plan), planfile::high_of(plan), room);
+    let made = planfile::write(list_of(plan), low_of(plan), high_of(plan), room);
     front(room, made)
 }
 
 /// Whether bytes are a list; why not.
 pub fn check_list(list: &[u8]) -> Result<(), No> {
-    joblist::check_list(list).map_err(|w| No::of(w))
+    joblist::check_list(list).map_err(No::of)
 }
 
 /// Whether the check says yes to a plan.
@@ -124,7 +114,7 @@ pub fn put_check(page: Page, path: &[u8], plan: Plan) -> Page {
     }
 }
 
-/// There is no such night.
+/// Yes: the plan has no night on which it goes wrong.
 pub fn put_good(page: Page, path: &[u8]) -> Page {
     let to = page.put(b"yes: ").put(path);
     to.line(b": every night is good, so there is none to show")
