@@ -93,7 +93,7 @@ impl<'a> Command<'a> {
         }
     }
 
-    // What the words ask for: those that are not given are empty.
+    // What the words ask for. Those that are not given are empty, and an empty word that is given counts as none.
     pub(crate) fn of(words: [&'a [u8]; 5]) -> Self {
         match words {
             [b"demo", ..] => Command::Demo,

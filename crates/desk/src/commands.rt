@@ -98,7 +98,7 @@ pub(crate) fn show(rt: &HostRuntime, sight: Sight) -> Option<()> {
     Some(())
 }
 
-// There is no such night, and so no picture either.
+// A good plan has no night to show, and so no picture either.
 fn say_good(rt: &HostRuntime, path: &[u8], look: Look) {
     match look {
         Look::Text => send(plans::put_good(Page::output(rt), path)),

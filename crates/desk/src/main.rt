@@ -20,7 +20,7 @@ fn word<'a>(rt: &HostRuntime, i: usize, room: &'a mut [u8; WORD]) -> &'a [u8] {
     }
 }
 
-// Whether there is something to be done, and all of it was done; else it was said why not.
+// Does what was asked, and stops where it was said why.
 fn run(rt: &HostRuntime, command: Command) -> Option<()> {
     match command {
         Command::Help => help::say(rt),
@@ -46,6 +46,7 @@ fn run(rt: &HostRuntime, command: Command) -> Option<()> {
 
 // The words are bytes in lent rooms, and no `String`s: a path may have any bytes.
 fn main(rt: HostRuntime) {
+    // Five rooms: of one array of five, lent piece by piece, the proof did not close.
     let mut a = [0u8; WORD];
     let mut b = [0u8; WORD];
     let mut c = [0u8; WORD];
