@@ -33,9 +33,11 @@ impl State {
     pub fn fresh(plan: Plan, first: u16) -> Self
         ensures { result ≡ fresh_of first_edition plan first }
     {
+        // the head first: a plan that is read after it was put into the state would be copied, and take its stack twice
+        let head = Head::fresh(plan.counts.len, first);
         State {
             plan,
-            head: Head::fresh(plan.counts.len, first),
+            head,
             units: [0u16; MOST_JOBS],
             done: [0u8; MOST_JOBS],
             cut: [0u8; MOST_JOBS],

@@ -101,6 +101,17 @@ impl Refusal for BuildWhy {
     }
 }
 
+// A table copied into another of the same length. By slot: `copy_from_slice` asks `memmove` of firmware, and include/hut.h promises
+// that `memcpy` and `memset` are enough.
+fn copy_table(from: &[u8], to: &mut [u8])
+    requires { length from.now ≡ length to.old }
+    ensures { to.new ≡ from.now }
+{
+    for t in 0..from.len() {
+        to[t] = from[t];
+    }
+}
+
 // The tables that a build is lent, each of L bytes: TLO and what is left of it, THI as first made, what is left of THI, and the pair.
 #[derive(Drop)]
 struct Tables<'a> {
@@ -133,7 +144,7 @@ impl Tables<'_> {
         let high_late = late_table(list, 1, high).map_err(|l| BuildWhy::HighLate(l.slot, l.job));
         low_late.and(high_late)?;
         keep_first(list, high);
-        left.copy_from_slice(high);
+        copy_table(high, left);
         table_lo(list, low, left, lo)?;
         table_hi(list, lo, high, hi);
         let v = verdict::check(list.bytes, lo, hi);

@@ -138,6 +138,18 @@ impl Refusal for WriteWhy {
     }
 }
 
+// Puts the bytes of s into out from `at` on. By place: `copy_from_slice` asks `memmove` of firmware, and include/hut.h promises
+// that `memcpy` and `memset` are enough.
+#[tactic(auto, using(basics::proofs::Put::put_none))]
+fn copy_at(out: &mut [u8], at: usize, s: &[u8])
+    requires { at + length s.now ≤ length out.old }
+    ensures { out.new ≡ put out.old at s.now }
+{
+    for i in 0..s.len() {
+        out[at + i] = s[i];
+    }
+}
+
 // The trailer: the distance back, and the mark.
 fn trailer_of(back: usize) -> [u8; TRAILER_BYTES]
     ensures { result ≡ trailer back }
@@ -148,6 +160,7 @@ fn trailer_of(back: usize) -> [u8; TRAILER_BYTES]
 }
 
 /// Inner: the plan of a list and two tables that were checked, at the front of a buffer that has room; its length. Who builds a pair writes it so too.
+#[tactic(auto, using(crate::proofs::Written::plan_length, crate::proofs::Written::four))]
 pub fn put_plan(list: &[u8], lo: &[u8], hi: &[u8], out: &mut [u8]) -> usize
     requires { length list.now + length lo.now + length hi.now + trailer_bytes ≤ length out.old }
     ensures { (result ≡ length (plan_of list.now lo.now hi.now))
@@ -156,12 +169,12 @@ pub fn put_plan(list: &[u8], lo: &[u8], hi: &[u8], out: &mut [u8]) -> usize
     let low = list.len();
     let high = low + lo.len();
     let back = high + hi.len();
-    let end = back + TRAILER_BYTES;
-    out[..low].copy_from_slice(list);
-    out[low..high].copy_from_slice(lo);
-    out[high..back].copy_from_slice(hi);
-    out[back..end].copy_from_slice(&trailer_of(back));
-    end
+    let t = trailer_of(back);
+    copy_at(out, 0, list);
+    copy_at(out, low, lo);
+    copy_at(out, high, hi);
+    copy_at(out, back, &t);
+    back + TRAILER_BYTES
 }
 
 /// Writes the plan at the front of `out`, where the check says yes and there is room; no byte changes otherwise.
