@@ -60,7 +60,9 @@ fn tables(lo: &[u8], hi: &[u8], n: usize) -> [u8; ENTRIES]
     out
 }
 
-// A plan's fields, from its list and its tables.
+// A plan's fields, from its list and its tables. Never inlined: the tables would stand four times on the stack of opening, which on
+// riscv64 is over `HUT_STACK_OPEN`.
+#[inline(never)]
 #[tactic(auto, using(crate::proofs::Opened::fields_are))]
 fn fields(list: &[u8], lo: &[u8], hi: &[u8]) -> Plan
     requires { (jobs list.now ≤ first_edition.jobs) × (edges list.now ≤ first_edition.edges) × (slots list.now ≤ first_edition.slots) × (list_bytes (jobs list.now) (edges list.now) ≤ length list.now)
