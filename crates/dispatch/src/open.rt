@@ -19,7 +19,9 @@ pub struct Opened {
 }
 
 // The numbers of n jobs, 16 bits each. By place: two bytes make a number, which no copy does, and pairs of bytes beside numbers
-// read no plainer.
+// read no plainer. Never inlined, nor are the tables: with both inlined opening takes 23,000 bytes of stack on aarch64 and riscv64,
+// which is over `HUT_STACK_OPEN`; with the whole of `fields` out of line it copies the plan once more.
+#[inline(never)]
 #[tactic(auto, using(crate::proofs::Entries::entries_none, crate::proofs::Entries::entries_turn, crate::proofs::Entries::entries_done), unfolding(crate::specs::Open::jobs_of))]
 fn numbers(list: &[u8], n: usize) -> [u16; JOBS]
     requires { (n ≤ first_edition.jobs) × (job_at n ≤ length list.now) }
@@ -46,7 +48,8 @@ fn ends(list: &[u8], n: usize, m: usize) -> [u8; ENDS]
     out
 }
 
-// Both tables, of n slots each.
+// Both tables, of n slots each. Never inlined, as the numbers.
+#[inline(never)]
 #[tactic(auto, using(crate::proofs::Entries::both_none, crate::proofs::Entries::both_turn, crate::proofs::Entries::both_done), unfolding(crate::specs::Open::tables_of))]
 fn tables(lo: &[u8], hi: &[u8], n: usize) -> [u8; ENTRIES]
     requires { (n ≤ first_edition.slots) × (n ≤ length lo.now) × (n ≤ length hi.now) }
@@ -60,9 +63,7 @@ fn tables(lo: &[u8], hi: &[u8], n: usize) -> [u8; ENTRIES]
     out
 }
 
-// A plan's fields, from its list and its tables. Never inlined: the tables would stand four times on the stack of opening, which on
-// riscv64 is over `HUT_STACK_OPEN`.
-#[inline(never)]
+// A plan's fields, from its list and its tables.
 #[tactic(auto, using(crate::proofs::Opened::fields_are))]
 fn fields(list: &[u8], lo: &[u8], hi: &[u8]) -> Plan
     requires { (jobs list.now ≤ first_edition.jobs) × (edges list.now ≤ first_edition.edges) × (slots list.now ≤ first_edition.slots) × (list_bytes (jobs list.now) (edges list.now) ≤ length list.now)
