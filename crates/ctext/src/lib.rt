@@ -7,18 +7,17 @@ use jobtext::{Names, put_list};
 pub use name::is_name;
 use page::Page;
 use planfile::{high_of, list_of, low_of};
-use std::alloc::Global;
 use tabletext::put_pair;
 
 // How many bytes stand in a line.
 const IN_LINE: usize = 12;
 
 // What is in the plan, as texts that the desk reads again. A plan has no names, so nothing in them ends the comment.
-fn put_comment(alloc: Global, page: Page, plan: &[u8]) -> Page {
+fn put_comment(page: Page, plan: &[u8]) -> Page {
     let list = list_of(plan);
     let counted = drawing::put_counts(page.put(b"/* A plan of "), list).put(b".");
     let listed = put_list(counted.end().end(), list).end();
-    let names = Names::none(alloc);
+    let names = Names::none();
     put_pair(listed, low_of(plan), high_of(plan), &names).line(b"*/")
 }
 
@@ -41,8 +40,8 @@ fn put_length(page: Page, plan: &[u8], name: &[u8]) -> Page {
 }
 
 /// The plan by a name of C's.
-pub fn put_source(alloc: Global, page: Page, plan: &[u8], name: &[u8]) -> Page {
-    let included = put_comment(alloc, page, plan).line(b"#include <stddef.h>\n#include <stdint.h>");
+pub fn put_source(page: Page, plan: &[u8], name: &[u8]) -> Page {
+    let included = put_comment(page, plan).line(b"#include <stddef.h>\n#include <stdint.h>");
     let named = included
         .end()
         .put(b"const uint8_t ")

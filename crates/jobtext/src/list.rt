@@ -1,5 +1,6 @@
 //! The fields of a list's bytes, safe at any place: 0 where the list has none.
 use joblist::{EDGE_BYTES, HEAD_BYTES, JOB_BYTES, MOST_JOBS};
+use page::after;
 use text::byte_at;
 
 // The pairs of jobs: no list has more edges.
@@ -26,7 +27,7 @@ fn edge_at(n: usize, e: usize) -> Option<usize> {
 // The 16 bits at a place, the low byte first.
 fn u16_at(list: &[u8], i: usize) -> usize {
     let low = byte_at(list, i);
-    let high = byte_at(list, i.saturating_add(1));
+    let high = byte_at(list, after(i));
     usize::from(u16::from_le_bytes([low, high]))
 }
 
@@ -72,5 +73,5 @@ pub fn edge_from(list: &[u8], e: usize) -> usize {
 }
 
 pub fn edge_to(list: &[u8], e: usize) -> usize {
-    edge_at(jobs(list), e).map_or(0, |i| usize::from(byte_at(list, i.saturating_add(1))))
+    edge_at(jobs(list), e).map_or(0, |i| usize::from(byte_at(list, after(i))))
 }

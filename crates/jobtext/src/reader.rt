@@ -5,6 +5,7 @@ use crate::names::{Names, name_of};
 use joblist::MOST_JOBS;
 use std::alloc::{AllocError, Global};
 use std::collections::BTreeSet;
+use text::same;
 
 /// What was read: the list's bytes, and the names.
 #[derive(Drop)]
@@ -73,7 +74,7 @@ fn job_of(line: &[u8]) -> Result<Job, Wrong> {
 
 // Whether a line is an edge's.
 fn is_edge(line: &[u8]) -> bool {
-    word(line, 1) == b"before".as_slice()
+    same(word(line, 1), b"before")
 }
 
 fn put_number(list: &mut Vec<u8>, number: u16) -> Result<(), AllocError> {
@@ -96,7 +97,7 @@ impl Reader {
     // Nothing yet.
     fn new(alloc: Global) -> Self {
         Reader {
-            names: Names::none(alloc),
+            names: Names::none(),
             jobs: Vec::new(alloc),
             edges: BTreeSet::new(alloc),
         }
@@ -123,7 +124,9 @@ impl Reader {
         let (name, job) = self
             .new_job(line)
             .map_err(|wrong| Mistake::Line(number, wrong))?;
-        self.names.add(name)?;
+        if !self.names.add(name.as_bytes()) {
+            return Err(Mistake::Line(number, Wrong::Full));
+        }
         self.jobs.push(job)?;
         Ok(())
     }

@@ -64,7 +64,7 @@ fn named<'a>(
         path,
         source: Source::Plan,
         bytes,
-        names: Names::none(rt.alloc()),
+        names: Names::none(),
     };
     if let Some(jobs) = jobs {
         let Jobs { list, names } = read_jobs(rt, jobs)?;
