@@ -1,5 +1,6 @@
 //! Lines in, lines out: a line is kept until it ends.
 use crate::reply::Desk;
+use page::less;
 use requests::{MOST_LINE, request_of};
 use std::alloc::AllocError;
 use std::io;
@@ -13,7 +14,7 @@ const PIECE: usize = 65536;
 
 // Puts a part of a line behind what is there; of a line that is too long, enough to tell.
 fn keep(line: &mut Vec<u8>, part: &[u8]) -> Result<(), AllocError> {
-    let room = (MOST_LINE + 1).saturating_sub(line.len());
+    let room = less(MOST_LINE + 1, line.len());
     line.extend_from_slice(part.get(..room).unwrap_or(part))
 }
 

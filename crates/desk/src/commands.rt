@@ -183,7 +183,7 @@ pub(crate) fn c(rt: &HostRuntime, path: &[u8], name: &[u8]) -> Option<()> {
     let pair = planned(rt, path, None)?;
     let plan = pair.plan();
     if is_runnable(rt, plan) {
-        send(ctext::put_source(rt.alloc(), Page::output(rt), plan.bytes, name));
+        send(ctext::put_source(Page::output(rt), plan.bytes, name));
     }
     Some(())
 }

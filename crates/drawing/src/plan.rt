@@ -1,5 +1,6 @@
 //! What a plan's bytes say of its tables: nothing is asked of a caller.
 use jobtext::{Names, list};
+use page::less;
 use std::ops::Range;
 use verdict::count::{entries_before, entry_at};
 
@@ -62,7 +63,7 @@ impl<'a> Plan<'a> {
     /// Whether a high job with CHI > CLO has its CLO-th unit in slot t of table LO.
     pub fn switches(self, t: usize) -> bool {
         let j = self.entry(Table::Low, t);
-        let before = list::ordinary(self.list(), j).saturating_sub(1);
+        let before = less(list::ordinary(self.list(), j), 1);
         self.may_switch(j) && self.entries(Table::Low, j, t) == before
     }
 

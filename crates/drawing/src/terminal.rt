@@ -1,7 +1,7 @@
 //! The two tables in the columns of a terminal: a row a job, from its arrival to its deadline.
 use crate::plan::{Plan, Table};
 use jobtext::list;
-use page::Page;
+use page::{Page, less, lower, plus};
 
 // A frame of so many slots has wide cells and one block.
 const WIDE: usize = 16;
@@ -129,9 +129,7 @@ impl View<'_> {
     fn put_unit(self, page: Page, t: usize) -> Page {
         let k = self.inside();
         if self.marks(t) {
-            return page
-                .fill("█".as_bytes(), k.saturating_sub(1))
-                .put("▶".as_bytes());
+            return page.fill("█".as_bytes(), less(k, 1)).put("▶".as_bytes());
         }
         page.fill("█".as_bytes(), k)
     }
@@ -203,7 +201,7 @@ fn put_block(page: Page, plan: Plan, from: usize, in_colour: bool) -> Page {
         plan,
         table: Table::Low,
         from,
-        to: slots.min(from.saturating_add(FOLD)),
+        to: lower(slots, plus(from, FOLD)),
         is_wide: slots <= WIDE,
         in_colour,
     };

@@ -1,10 +1,10 @@
 //! What failed, and why, in the system's own words.
 use crate::complain;
-use page::Page;
+use page::{Page, less};
 use std::fmt;
 use std::fmt::Write;
 use std::io::Error;
-use text::part;
+use text::{find, part};
 
 // The bytes of the longest words that an error has, with its number.
 const ROOM: usize = 320;
@@ -41,10 +41,11 @@ fn words_of(e: Error) -> Words {
 
 // What stands before the brackets, and before the blank in front of them.
 fn before_number(s: &[u8]) -> &[u8] {
-    match s.iter().position(|x| *x == b'(') {
-        Some(at) => &s[..at.saturating_sub(1)],
-        None => s,
+    let at = find(s, 0, b'(');
+    if at == s.len() {
+        return s;
     }
+    part(s, 0, less(at, 1))
 }
 
 /// Says what failed, and why, and sends the page.

@@ -2,7 +2,7 @@
 #![tactic(auto)]
 
 use logwalk::Span;
-use page::Page;
+use page::{Page, plus};
 use planlog::AppendWhy;
 use replytext::{put_answer_with, put_bytes};
 use requests::LogRequest;
@@ -30,7 +30,7 @@ fn reply_store(page: Page, store: &mut [u8], byte: usize) -> Page {
 }
 
 fn reply_put(page: Page, store: &mut [u8], at: usize, bytes: &[u8]) -> Page {
-    let Some(place) = store.get_mut(at..at.saturating_add(bytes.len())) else {
+    let Some(place) = store.get_mut(at..plus(at, bytes.len())) else {
         return put_unreadable(page);
     };
     place.copy_from_slice(bytes);
@@ -67,7 +67,7 @@ fn reply_listed(page: Page, store: &[u8]) -> Page {
 }
 
 fn reply_peek(page: Page, store: &[u8], at: usize, count: usize) -> Page {
-    match store.get(at..at.saturating_add(count)) {
+    match store.get(at..plus(at, count)) {
         Some(bytes) => put_bytes(put_yes(page), b" bytes=", bytes),
         None => put_unreadable(page),
     }

@@ -27,11 +27,7 @@ impl Store<'_> {
         match text::number(bytes, STORE_MOST) {
             Some(size) if size != 0 => self.make_of(size),
             None if bytes.iter().all(|x| x.is_ascii_digit()) => {
-                send(logtext::put_not_found(
-                    self.rt.alloc(),
-                    Page::output(self.rt),
-                    FindWhy::Large,
-                ));
+                send(logtext::put_not_found(Page::output(self.rt), FindWhy::Large));
             }
             _ => misused(self.rt),
         }
@@ -67,7 +63,7 @@ impl Store<'_> {
         let at = match planlog::room_for(&store, &plan) {
             Ok(at) => at,
             Err(w) => {
-                send(logtext::put_refused(self.rt.alloc(), Page::output(self.rt), &plan, w));
+                send(logtext::put_refused(Page::output(self.rt), &plan, w));
                 return;
             }
         };
@@ -88,7 +84,7 @@ impl Store<'_> {
         };
         match logwalk::newest(&store) {
             Ok(span) => self.save(to, &store, span),
-            Err(w) => send(logtext::put_not_found(self.rt.alloc(), Page::output(self.rt), w)),
+            Err(w) => send(logtext::put_not_found(Page::output(self.rt), w)),
         }
     }
 
@@ -117,7 +113,7 @@ impl Store<'_> {
                 let page = Page::output(self.rt);
                 send(logtext::put_list(page, self.path, &store, end_of(span)));
             }
-            Err(w) => complain(logtext::put_not_found(self.rt.alloc(), Page::errors(self.rt), w)),
+            Err(w) => complain(logtext::put_not_found(Page::errors(self.rt), w)),
         }
     }
 }

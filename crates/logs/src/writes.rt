@@ -1,5 +1,6 @@
 //! The writes of an append, made in the file one by one and in the log's order, so that a program that ends between two of
 //! them leaves what a cut of power leaves.
+use page::{less, plus};
 use std::fs::File;
 use std::io;
 use std::os::unix::fs::FileExt;
@@ -8,8 +9,8 @@ use std::os::unix::fs::FileExt;
 // counts from its last byte on: before that, and before its first, the disk is asked to have all the others. The writes go
 // by number, as the log gives them.
 pub(crate) fn make(file: &File, size: usize, at: usize, plan: &[u8]) -> io::Result<()> {
-    let zeros = size.saturating_sub(at);
-    let all = zeros.saturating_add(plan.len());
+    let zeros = less(size, at);
+    let all = plus(zeros, plan.len());
     for k in 0..all {
         if k == zeros || k + 1 == all {
             file.sync_all()?;

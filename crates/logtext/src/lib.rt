@@ -3,16 +3,15 @@
 
 use jobtext::{Names, list};
 use logwalk::{FindWhy, STORE_MOST, Span};
-use page::Page;
+use page::{Page, less, plus};
 use planfile::list_of;
 use planlog::AppendWhy;
-use std::alloc::Global;
 use std::iter::successors;
 use words::{No, label};
 
 /// The place behind a plan.
 pub fn end_of(span: Span) -> usize {
-    span.start.saturating_add(span.size)
+    plus(span.start, span.size)
 }
 
 /// The bytes of a plan in its store.
@@ -21,13 +20,13 @@ pub fn plan_at(store: &[u8], span: Span) -> &[u8] {
 }
 
 /// Why no plan was found.
-pub fn put_not_found(alloc: Global, page: Page, w: FindWhy) -> Page {
-    words::tell(page, b"", &Names::none(alloc), No::of(w))
+pub fn put_not_found(page: Page, w: FindWhy) -> Page {
+    words::tell(page, b"", &Names::none(), No::of(w))
 }
 
 /// Why a plan was not appended.
-pub fn put_refused(alloc: Global, page: Page, plan: &[u8], w: AppendWhy) -> Page {
-    words::tell(page, list_of(plan), &Names::none(alloc), No::of(w))
+pub fn put_refused(page: Page, plan: &[u8], w: AppendWhy) -> Page {
+    words::tell(page, list_of(plan), &Names::none(), No::of(w))
 }
 
 /// A store that was made.
@@ -45,7 +44,7 @@ pub fn put_found(page: Page, path: &[u8], plan: &[u8], at: usize) -> Page {
 
 /// A plan that was appended, and what is left behind it.
 pub fn put_appended(page: Page, path: &[u8], plan: &[u8], at: usize, size: usize) -> Page {
-    let left = size.saturating_sub(at.saturating_add(plan.len()));
+    let left = less(size, plus(at, plan.len()));
     label(put_found(page, path, plan, at), b"left")
         .count(left, b"byte")
         .end()
@@ -87,7 +86,7 @@ fn put_rows(page: Page, store: &[u8], newest: usize) -> Page {
 fn put_total(page: Page, path: &[u8], size: usize, end: usize) -> Page {
     let sized = page.put(path).put(b", ").count(size, b"byte").put(b": ");
     let held = sized.number(end).put(b" hold plans, ");
-    held.number(size.saturating_sub(end)).line(b" left")
+    held.number(less(size, end)).line(b" left")
 }
 
 /// Every plan of a store, newest first, and how much of it they take; `end` is the newest plan's.

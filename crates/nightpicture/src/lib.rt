@@ -4,7 +4,7 @@
 use drawing::plan::{Plan, Table};
 use nights::night::{Night, Slot};
 use nights::{At, budgets, witness_of};
-use page::Page;
+use page::{Page, after, less, plus};
 use picture::shapes::{head, key, label, text_at, text_end, upright};
 use picture::sheet::{Grid, MARGIN, Sheet};
 use refusal::Refusal;
@@ -23,8 +23,8 @@ const UNDER: usize = 28;
 
 // What a job needs, beside its row.
 fn put_need(page: Page, grid: Grid, night: &Night, j: usize) -> Page {
-    let x = grid.sheet.end().saturating_add(12);
-    let y = grid.y_of(j).saturating_add(17);
+    let x = plus(grid.sheet.end(), 12);
+    let y = plus(grid.y_of(j), 17);
     let to = text_at(page, b"small", x, y).put(b"needs ");
     let needed = to.number(night.work(j).need);
     text_end(budgets(needed, night.plan.list(), j))
@@ -68,14 +68,8 @@ fn put_switch(page: Page, grid: Grid, switch: Option<usize>) -> Page {
     let Some(t) = switch else {
         return page;
     };
-    let at = grid.sheet.x_of(t.saturating_add(1));
-    upright(
-        page,
-        b"switch",
-        at,
-        grid.top.saturating_sub(4),
-        grid.bottom(),
-    )
+    let at = grid.sheet.x_of(after(t));
+    upright(page, b"switch", at, less(grid.top, 4), grid.bottom())
 }
 
 // The fault: a mark at the opening of its slot, and its number in words under the rows.
@@ -83,8 +77,8 @@ fn put_fault(page: Page, grid: Grid, f: Fault) -> Page {
     let At { slot, job, .. } = At::from(f);
     let y = grid.y_of(job);
     let x = grid.sheet.x_of(slot);
-    let marked = upright(page, b"fault", x, y, y.saturating_add(24));
-    let under = grid.bottom().saturating_add(20);
+    let marked = upright(page, b"fault", x, y, plus(y, 24));
+    let under = plus(grid.bottom(), 20);
     let to = text_at(marked, b"wrong", 20, under).put(b"slot ");
     let placed = to.number(slot).put(b": ");
     text_end(words::meaning(placed, f.number()))
@@ -109,8 +103,8 @@ fn put_bad(page: Page, night: Night, f: Fault) -> Page {
     let sheet = Sheet::new(night.plan);
     let grid = sheet.grid(Table::Low);
     let At { slot, switch, .. } = At::from(f);
-    let width = sheet.end().saturating_add(NEED).max(680);
-    let height = grid.bottom().saturating_add(UNDER + MARGIN);
+    let width = plus(sheet.end(), NEED).max(680);
+    let height = plus(grid.bottom(), UNDER + MARGIN);
     let ruled = grid.put_numbers(put_heading(head(page, width, height)));
     let rows = put_rows(ruled, grid, &night);
     let ran = put_slots(rows, grid, night, slot);

@@ -2,6 +2,7 @@
 use drawing::plan::{Plan, Table};
 use joblist::MOST_JOBS;
 use jobtext::list;
+use page::after;
 
 /// The units that a job needs, and those that it has had.
 #[derive(Clone, Copy, Default)]
@@ -98,7 +99,7 @@ impl<'a> Night<'a> {
     fn ran(mut self, j: usize) -> Self {
         let list = self.plan.list();
         let Work { need, had } = self.work(j);
-        let had = had.saturating_add(1);
+        let had = after(had);
         if let Some(work) = self.work.get_mut(j) {
             work.had = had;
         }

@@ -2,7 +2,7 @@
 use crate::night::{Night, Slot};
 use drawing::plan::{Plan, Table};
 use jobtext::list;
-use page::Page;
+use page::{Page, less, plus};
 use verdict::Fault;
 
 /// Where a fault is: its slot, its job and its switch slot, where it has one.
@@ -63,14 +63,14 @@ impl<'a> Columns<'a> {
         let widths = plan.jobs().map(|j| plan.names.width(j));
         Columns {
             plan,
-            wide: widths.max().unwrap_or(0).saturating_add(2),
+            wide: plus(widths.max().unwrap_or(0), 2),
         }
     }
 
     // A job's name in its columns.
     fn put_name(self, page: Page, j: usize) -> Page {
         let names = self.plan.names;
-        let rest = self.wide.saturating_sub(names.width(j));
+        let rest = less(self.wide, names.width(j));
         names.put(page, j).blank(rest)
     }
 

@@ -160,7 +160,7 @@ impl Page {
 
     /// Holds back k blanks.
     pub fn blank(mut self, k: usize) -> Self {
-        self.blanks = self.blanks.saturating_add(k);
+        self.blanks = plus(self.blanks, k);
         self
     }
 
@@ -182,7 +182,7 @@ impl Page {
 
     /// Bytes, and blanks up to k columns.
     pub fn left(self, s: &[u8], k: usize) -> Self {
-        self.put(s).blank(k.saturating_sub(s.len()))
+        self.put(s).blank(less(k, s.len()))
     }
 
     /// A number, and blanks up to k columns.
@@ -194,7 +194,7 @@ impl Page {
 
     /// A number, with blanks before it up to k columns.
     pub fn number_right(self, n: usize, k: usize) -> Self {
-        self.blank(k.saturating_sub(digits(n))).number(n)
+        self.blank(less(k, digits(n))).number(n)
     }
 
     /// A number and what it counts: with an s where it is not 1.

@@ -1,6 +1,6 @@
-//! Numbers of columns and places, which never run over. They are the library's methods, which the crates above call by their
-//! own names; these stay for the edits `below_zero` (of `less`), `higher` (of `lower`), `round_to_zero` (of `plus`) and
-//! `same_number` (of `after`), which the prover must refuse.
+//! Numbers of columns and places, which never run over: what this crate and those above it count by. They are the library's
+//! methods; by these names they are promised, and the edits `below_zero` (of `less`), `higher` (of `lower`), `round_to_zero` (of
+//! `plus`) and `same_number` (of `after`) plant a slip in what the programs run.
 ghost use Rattle.std.specs.Prelude.{◌≡◌, ◌+◌, ◌-◌, min};
 
 /// The difference; 0 where it would be below 0.

@@ -3,7 +3,7 @@
 
 use drawing::plan::{Plan, Table};
 use drawing::put_counts;
-use page::Page;
+use page::{Page, after, less, plus};
 use shapes::{head, key, label, text_at, text_end, upright};
 use sheet::{Grid, MARGIN, Sheet};
 
@@ -17,7 +17,7 @@ fn put_row(page: Page, grid: Grid, j: usize) -> Page {
 }
 
 fn put_table(page: Page, grid: Grid, title: &[u8]) -> Page {
-    let titled = label(page, b"title", 20, grid.top.saturating_sub(10), title);
+    let titled = label(page, b"title", 20, less(grid.top, 10), title);
     let ruled = grid.put_numbers(titled);
     let jobs = grid.sheet.plan.jobs();
     jobs.fold(ruled, |to, j| put_row(to, grid, j))
@@ -25,9 +25,9 @@ fn put_table(page: Page, grid: Grid, title: &[u8]) -> Page {
 
 // A switch: a line from its slot's end in table LO down through table HI.
 fn put_switch(page: Page, sheet: Sheet, t: usize) -> Page {
-    let from = sheet.grid(Table::Low).top.saturating_sub(4);
+    let from = less(sheet.grid(Table::Low).top, 4);
     let to = sheet.grid(Table::High).bottom();
-    upright(page, b"switch", sheet.x_of(t.saturating_add(1)), from, to)
+    upright(page, b"switch", sheet.x_of(after(t)), from, to)
 }
 
 // The first two keys are also those of a night: a function for two calls is no plainer than the calls.
@@ -50,8 +50,8 @@ pub fn put_picture(page: Page, plan: Plan) -> Page {
     let sheet = Sheet::new(plan);
     let low = sheet.grid(Table::Low);
     let high = sheet.grid(Table::High);
-    let width = sheet.end().saturating_add(MARGIN).max(540);
-    let opened = head(page, width, high.bottom().saturating_add(MARGIN));
+    let width = plus(sheet.end(), MARGIN).max(540);
+    let opened = head(page, width, plus(high.bottom(), MARGIN));
     let headed = put_heading(opened, plan.list());
     let tables = put_table(put_table(headed, low, b"table LO"), high, b"table HI");
     let switches = plan.slots().filter(|t| plan.switches(*t));

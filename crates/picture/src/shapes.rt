@@ -1,6 +1,6 @@
 //! The shapes of a picture, and its text.
 use jobtext::Names;
-use page::Page;
+use page::{Page, after, plus};
 
 // How each kind looks.
 const STYLE: &[u8] = b"<style>text{font:13px ui-monospace,Menlo,Consolas,monospace;fill:#1f2933}
@@ -87,7 +87,7 @@ pub(crate) fn bracket(page: Page, x: usize, y: usize, arm: &[u8], back: &[u8]) -
         .put(b"<path class=\"bracket\" d=\"M")
         .number(x)
         .put(b" ")
-        .number(y.saturating_add(1));
+        .number(after(y));
     corner.put(arm).put(b"v22").put(back).line(b"\"/>")
 }
 
@@ -118,5 +118,5 @@ pub fn key(page: Page, class: &[u8], x: usize, s: &[u8]) -> Page {
         width: 18,
         height: 14,
     };
-    label(colour.put(page, class), b"key", x.saturating_add(24), 58, s)
+    label(colour.put(page, class), b"key", plus(x, 24), 58, s)
 }

@@ -2,7 +2,7 @@
 use crate::shapes::{Rectangle, bracket, name, text_at, text_end, upright};
 use drawing::plan::{Plan, Table};
 use jobtext::list;
-use page::Page;
+use page::{Page, after, less, plus};
 
 // Where slot 0 begins at least, and where the first row of table LO begins.
 const LEFT: usize = 150;
@@ -74,7 +74,7 @@ pub struct Sheet<'a> {
 fn margin(plan: Plan) -> usize {
     plan.jobs().fold(LEFT, |most, j| {
         let letters = plan.names.width(j).saturating_mul(LETTER);
-        most.max(letters.saturating_add(MARGIN))
+        most.max(plus(letters, MARGIN))
     })
 }
 
@@ -107,7 +107,7 @@ impl<'a> Sheet<'a> {
             table,
             top: match table {
                 Table::Low => TOP,
-                Table::High => under.saturating_add(TOP + BETWEEN),
+                Table::High => plus(under, TOP + BETWEEN),
             },
         }
     }
@@ -124,7 +124,7 @@ pub struct Grid<'a> {
 impl Grid<'_> {
     /// Where row k begins.
     pub fn y_of(self, k: usize) -> usize {
-        self.top.saturating_add(height(k))
+        plus(self.top, height(k))
     }
 
     /// Where the last row ends.
@@ -141,9 +141,9 @@ impl Grid<'_> {
     // The number over slot t, with a fine line down the table.
     fn put_number(self, page: Page, t: usize) -> Page {
         let x = self.sheet.x_of(t);
-        let line = upright(page, b"grid", x, self.top.saturating_sub(8), self.bottom());
-        let y = self.top.saturating_sub(10);
-        text_end(text_at(line, b"small", x.saturating_add(3), y).number(t))
+        let line = upright(page, b"grid", x, less(self.top, 8), self.bottom());
+        let y = less(self.top, 10);
+        text_end(text_at(line, b"small", plus(x, 3), y).number(t))
     }
 
     /// The numbers over the slots.
@@ -164,33 +164,27 @@ impl Grid<'_> {
         let to = self.sheet.x_of(list::deadline(list, j));
         let inside = Rectangle {
             x: from,
-            y: y.saturating_add(3),
-            width: to.saturating_sub(from),
+            y: plus(y, 3),
+            width: less(to, from),
             height: FILLED,
         };
-        let opened = bracket(
-            inside.put(page, b"window"),
-            from.saturating_add(5),
-            y,
-            b"h-5",
-            b"h5",
-        );
-        bracket(opened, to.saturating_sub(5), y, b"h5", b"h-5")
+        let opened = bracket(inside.put(page, b"window"), plus(from, 5), y, b"h-5", b"h5");
+        bracket(opened, less(to, 5), y, b"h5", b"h-5")
     }
 
     /// The name of a job before its window.
     pub fn put_row(self, page: Page, j: usize) -> Page {
-        let x = self.sheet.left.saturating_sub(12);
-        let label = text_at(page, b"name", x, self.y_of(j).saturating_add(17));
+        let x = less(self.sheet.left, 12);
+        let label = text_at(page, b"name", x, plus(self.y_of(j), 17));
         self.put_window(text_end(name(label, self.sheet.plan.names, j)), j)
     }
 
     /// A slot of a job's row.
     pub fn put_slot(self, page: Page, class: &[u8], j: usize, t: usize) -> Page {
         let slot = Rectangle {
-            x: self.sheet.x_of(t).saturating_add(1),
-            y: self.y_of(j).saturating_add(3),
-            width: self.sheet.scale.width().saturating_sub(2),
+            x: after(self.sheet.x_of(t)),
+            y: plus(self.y_of(j), 3),
+            width: less(self.sheet.scale.width(), 2),
             height: FILLED,
         };
         slot.put(page, class)

@@ -7,7 +7,7 @@ use joblist::{MOST_JOBS, Place};
 use jobtext::line::{bare, number, word};
 use jobtext::{Names, list};
 use machine::answer::{Answer, Why};
-use page::Page;
+use page::{Page, after};
 use refusal::Refusal;
 use std::fs::File;
 use std::io;
@@ -57,7 +57,7 @@ impl<'a> Run<'a> {
         let marked = put_mark(page, ended);
         self.page = put_answer(marked, self.names, stepped.answer, &state).end();
         if state.head.slot == 0 {
-            self.frame = self.frame.saturating_add(1);
+            self.frame = after(self.frame);
         }
         self.state = Some(state);
         self
@@ -65,7 +65,7 @@ impl<'a> Run<'a> {
 
     // A line of the text: one that is no tick, or is too long to be one, ends the run, and then all is said.
     fn line(mut self, text: &[u8]) -> ControlFlow<Page, Self> {
-        self.line = self.line.saturating_add(1);
+        self.line = after(self.line);
         let line = match text.strip_suffix(b"\n") {
             Some(line) => bare(line),
             None if HELD <= text.len() => return ControlFlow::Break(self.mistaken()),

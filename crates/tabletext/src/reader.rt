@@ -3,7 +3,9 @@ use crate::mistake::{Mistake, Wrong};
 use joblist::Table;
 use jobtext::line::{bare, number, word};
 use jobtext::{Names, list};
+use page::{after, less};
 use std::alloc::{AllocError, Global};
+use text::{find, same};
 
 /// What was read: a byte for each slot of the list.
 #[derive(Drop)]
@@ -46,19 +48,19 @@ struct Reader<'a> {
 
 // The first and the last slot of a run, which are one where the word has no dash.
 fn slots_of(word: &[u8]) -> Option<(usize, usize)> {
-    let (from, last) = match word.iter().position(|x| *x == b'-') {
-        Some(dash) => (number(&word[..dash])?, number(&word[dash + 1..])?),
-        None => {
-            let slot = number(word)?;
-            (slot, slot)
-        }
+    let dash = find(word, 0, b'-');
+    let (from, last) = if dash < word.len() {
+        (number(&word[..dash])?, number(&word[dash + 1..])?)
+    } else {
+        let slot = number(word)?;
+        (slot, slot)
     };
     Some((usize::from(from), usize::from(last)))
 }
 
 // Whether a line has slots and a name, or slots and a job's number.
 fn is_run(line: &[u8]) -> bool {
-    word(line, 2).is_empty() || word(line, 3).is_empty() && word(line, 1) == b"job".as_slice()
+    word(line, 2).is_empty() || word(line, 3).is_empty() && same(word(line, 1), b"job")
 }
 
 // The entry of a job that is one of so many.
@@ -120,11 +122,11 @@ impl<'a> Reader<'a> {
     fn entry(&self, line: &[u8]) -> Result<u8, Wrong> {
         let jobs = list::jobs(self.list);
         if !word(line, 2).is_empty() {
-            let last = jobs.saturating_sub(1);
+            let last = less(jobs, 1);
             let job = number(word(line, 2)).map(usize::from);
             return entry_of(job, jobs).ok_or(Wrong::Number(last));
         }
-        if word(line, 1) == b"idle".as_slice() {
+        if same(word(line, 1), b"idle") {
             return Ok(Table::IDLE);
         }
         entry_of(self.names.job_of(word(line, 1)), jobs).ok_or(Wrong::Name)
@@ -156,7 +158,7 @@ impl<'a> Reader<'a> {
         }
         let slots = list::slots(self.list);
         if slots <= last {
-            return Err(Wrong::Past(slots.saturating_sub(1)));
+            return Err(Wrong::Past(less(slots, 1)));
         }
         let end = last + 1;
         if let Some(t) = self.half().given(from, end) {
@@ -205,7 +207,7 @@ pub fn read(alloc: Global, text: &[u8], list: &[u8], names: &Names) -> Result<Ta
             .map_err(|wrong| Mistake::Line(number, wrong))?;
     }
     let lines = text.split_inclusive(|x| *x == b'\n').count();
-    let end = lines.saturating_add(1);
+    let end = after(lines);
     let low = reader.low.bytes(alloc, Mistake::Line(end, Wrong::NoLow))?;
     let high = reader.high.bytes(alloc, Mistake::Line(end, Wrong::NoHigh))?;
     Ok(Tables { low, high })

@@ -1,7 +1,7 @@
 //! Two tables as text that can be read again.
 use joblist::MOST_JOBS;
 use jobtext::Names;
-use page::{Page, digits};
+use page::{Page, after, digits, less, plus};
 
 // Whose a run is. A job with the name `idle` goes by its number.
 fn put_entry(page: Page, names: &Names, entry: u8) -> Page {
@@ -20,22 +20,22 @@ fn put_slots(page: Page, from: usize, last: usize, columns: usize) -> Page {
     if from == last {
         return page.number_left(from, columns);
     }
-    let first = digits(from).saturating_add(1);
+    let first = after(digits(from));
     page.number(from)
         .put(b"-")
-        .number_left(last, columns.saturating_sub(first))
+        .number_left(last, less(columns, first))
 }
 
 // A line for each run of slots that have one entry.
 fn put_table(page: Page, table: &[u8], names: &Names) -> Page {
-    let most = digits(table.len().saturating_sub(1));
-    let columns = most.saturating_mul(2).saturating_add(3);
+    let most = digits(less(table.len(), 1));
+    let columns = plus(most.saturating_mul(2), 3);
     // `chunk_by` gives no places, and a fold over the page and the slot, a pair, is no plainer.
     let mut to = page;
     let mut from = 0usize;
     for run in table.chunk_by(|x, y| x == y) {
-        let end = from.saturating_add(run.len());
-        let slots = put_slots(to, from, end.saturating_sub(1), columns);
+        let end = plus(from, run.len());
+        let slots = put_slots(to, from, less(end, 1), columns);
         let entry = run.first().copied().unwrap_or(0);
         to = put_entry(slots, names, entry).end();
         from = end;

@@ -1,5 +1,5 @@
-//! Bytes of a slice, at any place. They are the library's own methods; the names stay for the edits `last_byte` (of `byte_at`),
-//! `end_left_out` (of `part`), `longer_is_same` and `with_itself` (of `same`), which the prover must refuse.
+//! Bytes of a slice, at any place. They are the library's own methods; by these names they are promised, and the edits `last_byte`
+//! (of `byte_at`), `end_left_out` (of `part`), `longer_is_same` and `with_itself` (of `same`) plant a slip in what the programs run.
 ghost use Rattle.std.specs.Prelude.{◌≡◌, get_or};
 ghost use Rattle.text.specs.Slice.{between, same_bytes};
 
