@@ -102,14 +102,8 @@ fn target(list: &List, table: &[u8], job: usize, slot: usize) -> usize {
     let deadline = list.job(job).deadline;
     let held = |&entry: &u8| entry != IDLE && next[usize::from(entry)];
     let bound = table[..deadline].iter().position(held).unwrap_or(deadline);
-    // from below to the end, as the proved loop goes
-    let mut highest = slot;
-    for (slot, &entry) in table[..bound].iter().enumerate() {
-        if entry == IDLE {
-            highest = slot;
-        }
-    }
-    highest
+    // from above to the first, as the proved loop goes
+    (0..bound).rev().find(|&place| table[place] == IDLE).unwrap_or(slot)
 }
 
 fn successors(list: &List, job: usize) -> Marks {
