@@ -52,9 +52,12 @@ pub fn open_update(rt: &HostRuntime, path: &[u8]) -> io::Result<fs::File> {
     how.open(rt, path_of(path)?)
 }
 
-// Makes a file that is not there yet, and opens it to write.
+// Makes a file that is not there yet, and opens it to write; not by `File::create_new`, which asks to read it as well: a folder may
+// allow the one and not the other.
 fn open_new(rt: &HostRuntime, path: &[u8]) -> io::Result<fs::File> {
-    fs::File::create_new(rt, path_of(path)?)
+    let mut how = OpenOptions::new();
+    how.write(true).create_new(true);
+    how.open(rt, path_of(path)?)
 }
 
 // Reads to the end, or as many bytes as are read at most.
