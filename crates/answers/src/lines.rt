@@ -1,7 +1,7 @@
 //! Lines in, lines out: a line is kept until it ends.
 use crate::reply::Desk;
 use page::less;
-use requests::{MOST_LINE, request_of};
+use requests::{MOST_LINE, MOST_STORE, request_of};
 use std::alloc::AllocError;
 use std::io;
 use std::io::{BufRead, BufReader};
@@ -24,12 +24,13 @@ fn take_lines(
     piece: &[u8],
     line: &mut Vec<u8>,
     room: &mut [u8],
+    store: &mut [u8],
 ) -> Result<Desk, AllocError> {
     for part in piece.split_inclusive(|x| *x == b'\n') {
         match part.strip_suffix(b"\n") {
             Some(end) => {
                 keep(line, end)?;
-                desk = desk.answer(request_of(line.as_slice(), room))?;
+                desk = desk.answer(request_of(line.as_slice(), room), store);
                 line.clear();
             }
             None => keep(line, part)?,
@@ -45,18 +46,19 @@ pub(crate) fn answer_all(rt: &HostRuntime) -> io::Result<()> {
     let mut input = BufReader::with_capacity(alloc, PIECE, rt.stdin())?;
     let mut room = vec![in alloc; 0u8; MOST_DECODED]?;
     let mut line = Vec::with_capacity(alloc, MOST_LINE + 1)?;
-    let mut desk = Desk::new(rt)?;
+    let mut store = vec![in alloc; 0u8; MOST_STORE]?;
+    let mut desk = Desk::new(rt);
     for _ in 0..u64::MAX {
         let piece = input.fill_buf().unwrap_or(&[]);
         let size = piece.len();
-        desk = take_lines(desk, piece, &mut line, &mut room)?;
+        desk = take_lines(desk, piece, &mut line, &mut room, &mut store)?;
         input.consume(size);
         if size == 0 && line.is_empty() {
             break;
         }
         // The end of the input ends its last line too.
         if size == 0 {
-            desk = take_lines(desk, b"\n", &mut line, &mut room)?;
+            desk = take_lines(desk, b"\n", &mut line, &mut room, &mut store)?;
         }
     }
     Ok(())

@@ -7,28 +7,28 @@ use poke::field::Field;
 use poke::poked;
 use refusal::Refusal;
 use replytext::{Shown, put_answer, put_answer_with, put_bytes};
-use requests::{LogRequest, MOST_ROOM, MOST_STORE, Request, Tables};
-use std::alloc::AllocError;
+use requests::{LogRequest, MOST_ROOM, Request, Tables};
 
 // What lent bytes hold before a call.
 const LENT: u8 = 0xaa;
 
-// The answers, the dispatcher's state, and the log's store.
+// The answers, the dispatcher's state, and how many bytes the log's store has. The store itself is lent: with it in here an answer
+// could fail, and a desk would go through a `Result` at each line, which copies it.
 #[derive(Drop)]
 pub(crate) struct Desk {
     page: Page,
     state: State,
-    store: Vec<u8>,
+    size: usize,
 }
 
 impl Desk {
     // Before the first open the state is all zero, and before the first store there is none.
-    pub(crate) fn new(rt: &HostRuntime) -> Result<Self, AllocError> {
-        Ok(Desk {
+    pub(crate) fn new(rt: &HostRuntime) -> Self {
+        Desk {
             page: Page::output(rt),
             state: State::zero(),
-            store: Vec::with_capacity(rt.alloc(), MOST_STORE)?,
-        })
+            size: 0,
+        }
     }
 
     // Sends the answers that are gathered.
@@ -63,11 +63,14 @@ impl Desk {
     }
 
     // A request of the log, on the bytes that the store has for it.
-    fn log(mut self, request: LogRequest<'_>) -> Result<Self, AllocError> {
-        let size = logreplies::size_for(request, self.store.len());
-        self.store.resize(size, 0)?;
-        self.page = logreplies::reply(self.page, request, self.store.as_mut_slice()).end();
-        Ok(self)
+    fn log(mut self, request: LogRequest<'_>, store: &mut [u8]) -> Self {
+        let size = logreplies::size_for(request, self.size);
+        let Some(bytes) = store.get_mut(..size) else {
+            return self;
+        };
+        self.size = size;
+        self.page = logreplies::reply(self.page, request, bytes).end();
+        self
     }
 
     // A request that leaves the state and the store as they are.
@@ -77,19 +80,19 @@ impl Desk {
     }
 
     // With the answer to a request; to a line that cannot be read where there is none.
-    pub(crate) fn answer(self, request: Option<Request<'_>>) -> Result<Self, AllocError> {
+    pub(crate) fn answer(self, request: Option<Request<'_>>, store: &mut [u8]) -> Self {
         match request {
-            Some(Request::Open { plan, first }) => Ok(self.open(plan, first)),
-            Some(Request::Step { tick, ended }) => Ok(self.step(tick, ended)),
+            Some(Request::Open { plan, first }) => self.open(plan, first),
+            Some(Request::Step { tick, ended }) => self.step(tick, ended),
             Some(
                 Request::Poke {
                     field,
                     place,
                     value,
                 },
-            ) => Ok(self.poke(field, place, value)),
-            Some(Request::Log(request)) => self.log(request),
-            _ => Ok(self.reply(request)),
+            ) => self.poke(field, place, value),
+            Some(Request::Log(request)) => self.log(request, store),
+            _ => self.reply(request),
         }
     }
 }

@@ -162,8 +162,12 @@ impl View<'_> {
     }
 
     fn put_window(self, page: Page, j: usize) -> Page {
-        let to = (self.from..self.to).fold(page, |to, t| self.put_slot(to, j, t));
-        self.put_last(to, j)
+        // A `for`: a `fold` hands the page on more often, at each slot of each row.
+        let mut window = page;
+        for t in self.from..self.to {
+            window = self.put_slot(window, j, t);
+        }
+        self.put_last(window, j)
     }
 
     // The window in the colour of the job's level.

@@ -10,8 +10,8 @@ use std::{fs, io};
 use text::part;
 pub use why::fail;
 
-// The bytes that are read at most: one more than a file may have.
-const MOST: u64 = 131072;
+/// The bytes that are read at most: one more than a file may have.
+pub const MOST: usize = 131072;
 
 // The bytes of a file that are looked at at a time, where it is not kept.
 const PIECE: usize = 4096;
@@ -63,14 +63,14 @@ fn open_new(rt: &HostRuntime, path: &[u8]) -> io::Result<fs::File> {
 // Reads to the end, or as many bytes as are read at most.
 fn read_all(rt: &HostRuntime, file: &fs::File) -> io::Result<Vec<u8>> {
     let mut bytes = Vec::new(rt.alloc());
-    file.take(MOST).read_to_end(&mut bytes)?;
+    file.take(MOST as u64).read_to_end(&mut bytes)?;
     Ok(bytes)
 }
 
 /// Reads what is open, and leaves it open. Where there is nothing to hand back, it was said why.
 pub fn read_open(rt: &HostRuntime, file: &fs::File, path: &[u8]) -> Option<Vec<u8>> {
     match read_all(rt, file) {
-        Ok(bytes) if (bytes.len() as u64) < MOST => Some(bytes),
+        Ok(bytes) if bytes.len() < MOST => Some(bytes),
         Ok(_) => {
             let over = Page::errors(rt).put(path);
             complain(over.line(

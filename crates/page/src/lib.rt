@@ -119,14 +119,21 @@ impl Page {
     }
 
     // The blanks that were held back, now that something follows.
+    // Mostly there are none, and then the page is handed on once less: a page is a thousand bytes.
     fn spaced(self) -> Self {
         let blanks = self.blanks;
+        if blanks == 0 {
+            return self;
+        }
         self.repeated(b" ", blanks).trimmed()
     }
 
     /// Puts bytes.
     pub fn put(self, s: &[u8]) -> Self {
-        self.fill(s, 1)
+        if s.is_empty() {
+            return self;
+        }
+        self.spaced().added(s)
     }
 
     /// Puts the same bytes k times.

@@ -192,9 +192,11 @@ impl Grid<'_> {
 
     /// A slot in the colour of the job's level.
     pub fn put_filled(self, page: Page, j: usize, t: usize) -> Page {
-        if list::is_high(self.sheet.plan.list(), j) {
-            return self.put_slot(page, b"high", j, t);
-        }
-        self.put_slot(page, b"low", j, t)
+        let class: &[u8] = if list::is_high(self.sheet.plan.list(), j) {
+            b"high"
+        } else {
+            b"low"
+        };
+        self.put_slot(page, class, j, t)
     }
 }

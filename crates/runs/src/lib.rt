@@ -12,7 +12,6 @@ use refusal::Refusal;
 use std::fs::File;
 use std::io;
 use std::io::{BufRead, BufReader, Read};
-use std::ops::ControlFlow;
 
 // The tick that the first frame of made ticks begins with: a few before 65535.
 const FIRST: u16 = 65530;
@@ -22,6 +21,15 @@ const LINES: u64 = 1099511627776;
 
 // The bytes that are kept of a line: no line with a tick is longer, its end included.
 const HELD: usize = 4096;
+
+// What a line of ticks says. A value of its own, and no run that is handed on: a run is some thousand bytes, and a line that says
+// nothing would copy them.
+#[derive(Clone, Copy)]
+enum Said {
+    Nothing,
+    Tick(u16, bool),
+    Mistake,
+}
 
 // How far a run of a plan is: what is said, the state once it is open, the line, and the frame.
 #[derive(Drop)]
@@ -63,23 +71,7 @@ impl<'a> Run<'a> {
         self
     }
 
-    // A line of the text: one that is no tick, or is too long to be one, ends the run, and then all is said.
-    fn line(mut self, text: &[u8]) -> ControlFlow<Page, Self> {
-        self.line = after(self.line);
-        let line = match text.strip_suffix(b"\n") {
-            Some(line) => bare(line),
-            None if HELD <= text.len() => return ControlFlow::Break(self.mistaken()),
-            None => bare(text),
-        };
-        if word(line, 0).is_empty() {
-            return ControlFlow::Continue(self);
-        }
-        match tick_of(line) {
-            Some((tick, ended)) => ControlFlow::Continue(self.step(tick, ended)),
-            None => ControlFlow::Break(self.mistaken()),
-        }
-    }
-
+    // A line that is no tick ends the run, and then all is said.
     fn mistaken(self) -> Page {
         let page = self.page.put(b"line ").number(self.line);
         page.line(b": expected a tick from 0 to 65535, and then nothing or the word end")
@@ -162,6 +154,22 @@ fn tick_of(line: &[u8]) -> Option<(u16, bool)> {
     }
 }
 
+// What a line says; one that is too long to be a tick is a mistake.
+fn read_said(text: &[u8]) -> Said {
+    let line = match text.strip_suffix(b"\n") {
+        Some(line) => bare(line),
+        None if HELD <= text.len() => return Said::Mistake,
+        None => bare(text),
+    };
+    if word(line, 0).is_empty() {
+        return Said::Nothing;
+    }
+    match tick_of(line) {
+        Some((tick, ended)) => Said::Tick(tick, ended),
+        None => Said::Mistake,
+    }
+}
+
 // The next line of a text, and its end: how many bytes are kept of it, none where the text has ended.
 fn read_line<R: BufRead>(text: &mut R, line: &mut Vec<u8>) -> io::Result<usize> {
     line.clear();
@@ -173,14 +181,20 @@ fn lines<R: BufRead>(mut run: Run<'_>, text: &mut R, line: &mut Vec<u8>) -> Page
     for _ in 0..LINES {
         match read_line(text, line) {
             Ok(0) => break,
-            Ok(_) => match run.line(line.as_slice()) {
-                ControlFlow::Continue(next) => run = next,
-                ControlFlow::Break(page) => return page,
-            },
+            Ok(_) => run.line = after(run.line),
             Err(e) => {
                 fail(run.page.aside(), b"desk: the ticks", e);
                 break;
             }
+        }
+        match read_said(line.as_slice()) {
+            Said::Nothing => {}
+            Said::Tick(tick, ended) => run = run.step(tick, ended),
+            Said::Mistake => return run.mistaken(),
+        }
+        // The text has ended where its last line has no end: a terminal would be asked once more.
+        if !line.as_slice().ends_with(b"\n") {
+            break;
         }
     }
     run.page
