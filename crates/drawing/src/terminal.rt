@@ -1,7 +1,7 @@
 //! The two tables in the columns of a terminal: a row a job, from its arrival to its deadline.
 use crate::plan::{Plan, Table};
 use jobtext::list;
-use page::{Page, less, lower, plus};
+use page::{Page, after, less, lower, plus};
 
 // A frame of so many slots has wide cells and one block.
 const WIDE: usize = 16;
@@ -23,6 +23,29 @@ struct View<'a> {
     to: usize,
     is_wide: bool,
     in_colour: bool,
+}
+
+// What an edge or an inside is drawn with.
+#[derive(Clone, Copy, PartialEq, Eq)]
+enum Mark {
+    Opens,
+    Closes,
+    Full,
+    Line,
+    Blank,
+}
+
+impl Mark {
+    // Puts it k times.
+    fn put(self, page: Page, k: usize) -> Page {
+        match self {
+            Mark::Opens => page.fill("├".as_bytes(), k),
+            Mark::Closes => page.fill("┤".as_bytes(), k),
+            Mark::Full => page.fill("█".as_bytes(), k),
+            Mark::Line => page.fill("─".as_bytes(), k),
+            Mark::Blank => page.blank(k),
+        }
+    }
 }
 
 impl View<'_> {
@@ -104,19 +127,19 @@ impl View<'_> {
         t != 0 && self.has(j, t - 1) && self.has(j, t)
     }
 
-    // The edge between slots t - 1 and t.
-    fn put_edge(self, page: Page, j: usize, t: usize) -> Page {
+    // What stands at the edge between slots t - 1 and t.
+    fn edge(self, j: usize, t: usize) -> Mark {
         let list = self.plan.list();
         if t == list::arrival(list, j) {
-            page.put("├".as_bytes())
+            Mark::Opens
         } else if t == list::deadline(list, j) {
-            page.put("┤".as_bytes())
+            Mark::Closes
         } else if self.is_run(j, t) {
-            page.put("█".as_bytes())
+            Mark::Full
         } else if self.plan.is_open(j, t) {
-            page.put("─".as_bytes())
+            Mark::Line
         } else {
-            page.blank(1)
+            Mark::Blank
         }
     }
 
@@ -125,28 +148,34 @@ impl View<'_> {
         self.table == Table::Low && self.plan.switches(t)
     }
 
-    // The inside of slot t, which a job has.
-    fn put_unit(self, page: Page, t: usize) -> Page {
-        let k = self.inside();
-        if self.marks(t) {
-            return page.fill("█".as_bytes(), less(k, 1)).put("▶".as_bytes());
-        }
-        page.fill("█".as_bytes(), k)
+    // The inside of a slot that shows a switch.
+    fn put_switching(self, page: Page) -> Page {
+        page.fill("█".as_bytes(), less(self.inside(), 1))
+            .put("▶".as_bytes())
     }
 
-    // The inside of slot t.
-    fn put_inside(self, page: Page, j: usize, t: usize) -> Page {
+    // What fills slot t.
+    fn filling(self, j: usize, t: usize) -> Mark {
         if self.has(j, t) {
-            self.put_unit(page, t)
+            Mark::Full
         } else if self.plan.is_open(j, t) {
-            page.fill("─".as_bytes(), self.inside())
+            Mark::Line
         } else {
-            page.blank(self.inside())
+            Mark::Blank
         }
     }
 
+    // The edge and the inside; where they are alike, in one piece: a page is a thousand bytes, and each piece hands it on.
     fn put_slot(self, page: Page, j: usize, t: usize) -> Page {
-        self.put_inside(self.put_edge(page, j, t), j, t)
+        let edge = self.edge(j, t);
+        let filling = self.filling(j, t);
+        if filling == Mark::Full && self.marks(t) {
+            return self.put_switching(edge.put(page, 1));
+        }
+        if edge == filling {
+            return edge.put(page, after(self.inside()));
+        }
+        filling.put(edge.put(page, 1), self.inside())
     }
 
     // The last edge of a row: the deadline, or the window goes on.
