@@ -10,15 +10,12 @@ const STYLE: &[u8] = b"<style>text{font:13px ui-monospace,Menlo,Consolas,monospa
 .switch{stroke:#c2255c;stroke-width:2;stroke-dasharray:5 4}</style>
 ";
 
-// A number, after the text that opens its quotes. Inlined, as a page is a thousand bytes: each call
-// would copy it.
-#[inline(always)]
+// A number, after the text that opens its quotes.
 fn attribute(page: Page, s: &[u8], n: usize) -> Page {
     page.put(s).number(n).put(b"\"")
 }
 
-// The start of an element, with its class. Inlined too.
-#[inline(always)]
+// The start of an element, with its class.
 fn element(page: Page, kind: &[u8], class: &[u8]) -> Page {
     page.put(kind).put(b" class=\"").put(class)
 }
@@ -34,7 +31,6 @@ pub struct Rectangle {
 
 impl Rectangle {
     /// Puts it, in the look of a class.
-    #[inline(always)]
     pub fn put(self, page: Page, class: &[u8]) -> Page {
         let at = attribute(element(page, b"<rect", class), b"\" x=\"", self.x);
         let down = attribute(at, b" y=\"", self.y);
