@@ -1,6 +1,6 @@
 -- A job above every byte has none; and a byte's entries are counted as a list's elements.
 -- Assumes nothing.
-use Rattle.std.proofs.Common.{ℕ, ◌∙◌, ◌<◌, ap₂, arith, count_by, eqb, length, min, sym, take}
+use Rattle.std.proofs.Common.{ℕ, ◌≡◌, ◌∙◌, ◌<◌, ap₂, arith, count_by, eqb, length, min, sym, take}
 use Rattle.verdict.proofs.Entries.{entries_counted, none_before}
 use Rattle.verdict.specs.Count.{entries_in}
 use Rattle.verdict.proofs.count.entries_before.Goals as goal
@@ -16,5 +16,6 @@ pub returns : goal.returns
 unfolding entries_in
 returns c =
     let a = c.args in
-    c.entries_by_block.ensures ∙ ap₂ (λ (e k : ℕ). count_by (λ x. eqb x e) (take k a.table.now)) c.in-Ok.ensures.1 c.min.ensures
+    let named : c.in-Ok.entry ≡ a.job = omega (arith, c.in-Ok.ensures.1) in
+    c.entries_by_block.ensures ∙ ap₂ (λ (e k : ℕ). count_by (λ x. eqb x e) (take k a.table.now)) named c.min.ensures
     ∙ sym (entries_counted a.table.now a.job (min a.slot (length a.table.now)) (omega arith))
